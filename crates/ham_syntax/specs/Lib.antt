@@ -1,0 +1,4 @@
+pub mod InPlace
+pub mod Names
+pub mod Objects
+pub mod Checked
