@@ -1,0 +1,9 @@
+pub mod First
+pub mod Meaning
+pub mod Ahead
+pub use Rattle.ham_state.specs.Content
+pub use Rattle.ham_state.specs.Steps
+pub use Rattle.ham_state.specs.Touch
+pub use Rattle.ham_state.specs.Kept
+pub use Rattle.ham_syntax.specs.Objects
+pub use Rattle.ham_syntax.specs.Checked

@@ -1,0 +1,101 @@
+//! The lines of a schedule.
+
+ghost use Rattle.std.specs.Prelude.{◌≡◌, ◌<◌, length, map, IfOk, IfSome};
+ghost use Rattle.ham_replay.specs.Lines as lines;
+
+use ham_lines::{number, split};
+use ham_syntax::{Act, Args, Name, NoMemory, Object, Word};
+use ham_world::Event;
+use std::alloc::Global;
+
+/// What a line of a schedule asks.
+#[derive(Clone, Copy, Debug, PartialEq, Eq)]
+pub enum Line {
+    /// `replicas 1`, which makes the world.
+    Replicas,
+    /// `issue 1 METHOD A1 ..`
+    Act(Event),
+    /// `show 1 COUNTER`, of a plain counter.
+    Show { counter: u8 },
+}
+
+/// What a line asks; none where it has no shape that is built, with names of the object.
+pub fn read_line(alloc: Global, object: &Object, line: &[u8]) -> Result<Option<Line>, NoMemory>
+    ensures { IfOk result (λ found. found ≡ lines.line_of object.now line.now) }
+{
+    let words = split(alloc, line)?;
+    Ok(line_of_words(object, words.items()))
+}
+
+#[tactic(auto, unfolding(crate::specs::Lines::line_of_words))]
+fn line_of_words(object: &Object, words: &[Word]) -> Option<Line>
+    ensures { result ≡ lines.line_of_words object.now words.now }
+{
+    match words {
+        [verb, replica, name, rest @ ..] => {
+            if replica.items() == b"1".as_slice() {
+                line_at_replica(object, verb.items(), name.items(), rest)
+            } else {
+                None
+            }
+        }
+        [verb, count] => {
+            if verb.items() == b"replicas".as_slice() && count.items() == b"1".as_slice() {
+                Some(Line::Replicas)
+            } else {
+                None
+            }
+        }
+        _ => None,
+    }
+}
+
+#[tactic(auto, unfolding(crate::specs::Lines::line_at_replica))]
+fn line_at_replica(object: &Object, verb: &[u8], name: &[u8], rest: &[Word]) -> Option<Line>
+    ensures { result ≡ lines.line_at_replica object.now verb.now name.now rest.now }
+{
+    if verb == b"issue".as_slice() {
+        issue(object, name, rest)
+    } else if verb == b"show".as_slice() && rest.is_empty() {
+        show(object, name)
+    } else {
+        None
+    }
+}
+
+#[tactic(auto, unfolding(crate::specs::Lines::issue_of))]
+fn issue(object: &Object, method: &[u8], arguments: &[Word]) -> Option<Line>
+    ensures { result ≡ lines.issue_of object.now method.now arguments.now }
+{
+    let method = object.method_named(&Name::new(method)?)?;
+    let args = numbers(arguments)?;
+    let act = Act { method, args };
+    Some(Line::Act(Event::Issue { replica: 1, act }))
+}
+
+#[tactic(auto, unfolding(crate::specs::Lines::show_of))]
+fn show(object: &Object, counter: &[u8]) -> Option<Line>
+    ensures { result ≡ lines.show_of object.now counter.now }
+{
+    let counter = object.counter_named(&Name::new(counter)?)?;
+    if object.counters()[counter as usize].keyed {
+        None
+    } else {
+        Some(Line::Show { counter })
+    }
+}
+
+/// The numbers that the words spell; none where one spells no number, or there are more than six.
+#[tactic(auto, unfolding(crate::specs::Lines::numbers_of))]
+fn numbers(words: &[Word]) -> Option<Args>
+    ensures { result ≡ lines.numbers_of words.now }
+{
+    if words.len() > 6 {
+        return None;
+    }
+    let mut numbers = [0u64; 6];
+    for (i, word) in words.iter().enumerate() {
+        numbers[i] = number(word.items())?;
+    }
+    Args::new(&numbers[..words.len()])
+}

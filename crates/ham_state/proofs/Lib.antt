@@ -1,0 +1,4 @@
+pub mod ContentLaws
+pub mod LastTouch
+pub mod Scan
+pub mod OneEach
