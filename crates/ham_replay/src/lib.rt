@@ -2,6 +2,7 @@
 #![tactic(auto)]
 
 pub mod end;
+pub mod laws;
 pub mod line;
 pub mod play;
 pub mod turn;

@@ -2,11 +2,13 @@
 
 ghost use Rattle.std.specs.Prelude.{◌≡◌, ◌≤◌, string_bytes, Some, IfOk};
 ghost use Rattle.ham_bytes.specs.Causes.{Rose};
+ghost use Rattle.ham_world.specs.Headline.{IsFaithful};
 ghost use Rattle.ham_text.specs.Cuts.{lines_of};
 ghost use Rattle.ham_replay.specs.Replays as replays;
 ghost use Rattle.ham_replay.specs.Ends.{EndsAs, Writes, Puts, Gathers, StopsWith};
 
 use crate::end::{LineRefusal, Refusal, ReplayEnd, Stop};
+use crate::laws::replays_are_faithful;
 use crate::line::{Line, read_line};
 use crate::turn::{LineEnd, turn};
 use ham_bytes::{Gatherer, Sink};
@@ -20,9 +22,13 @@ use std::alloc::{AllocError, Global};
 pub fn replay<K: Sink>(alloc: Global, object: &Object, schedule: &[u8], out: &mut K) -> ReplayEnd
     ensures ends { EndsAs (replays.played object.now schedule.now) result }
     ensures writes { Writes (K.taken out.old) (K.taken out.new) (replays.played object.now schedule.now).text result }
+    ensures faithful { IsFaithful (replays.played object.now schedule.now).run }
     ensures later { K.faults out.old ≤ K.faults out.new }
     ensures cause { result ≡ ReplayEnd.WriteFault → Rose (K.faults out.old) (K.faults out.new) }
 {
+    // The law on replays is about checked objects, which this one is.
+    replays_are_faithful();
+    let _checked = object.counters();
     match play(alloc, object, schedule, out) {
         Ok(None) => ReplayEnd::Done,
         Ok(Some(Refusal { line, why })) => ReplayEnd::Refused { line, why },

@@ -1,6 +1,6 @@
 -- Every run is faithful: by induction on its notes.
-use Rattle.std.proofs.Common.{◌≡◌, ◌≢◌, ℕ, List, [], ◌∷◌, Option, Some, None, refl, sym, ap, subst, ◌∙◌}
-use Rattle.std.specs.Prelude.{◌↔◌}
+use Rattle.std.proofs.Common.{◌≡◌, ◌≢◌, ◌==◌, ℕ, Bool, true, false, not, List, [], ◌∷◌, Option, Some, None, refl, sym, ap, subst, ◌∙◌}
+use Rattle.std.specs.Prelude.{◌↔◌, if◌then◌else◌}
 use Rattle.ham_syntax.specs.declared.act.Act.{Act}
 use Rattle.ham_syntax.specs.declared.act.Call.{Call}
 use Rattle.ham_syntax.specs.declared.act.Place.{Place}
@@ -13,11 +13,15 @@ use Rattle.ham_meaning.specs.declared.issued.Issued.{Issued}
 use Rattle.ham_meaning.specs.declared.issued.Issued.TheVariants.{Applied, Impermissible}
 use Rattle.ham_meaning.specs.Meaning.{AllHold, IsOutcome, outcome_of, update}
 use Rattle.ham_meaning.proofs.Computed.{outcome_exact, holds_opening}
+use Rattle.ham_world.specs.declared.event.Event.{Event}
+use Rattle.ham_world.specs.declared.event.Event.TheVariants.{Issue}
+use Rattle.ham_world.specs.declared.event.IssueRefusal.{IssueRefusal}
+use Rattle.ham_world.specs.declared.event.StepRefusal.TheVariants as step
 use Rattle.ham_world.specs.declared.event.Note.{Note}
 use Rattle.ham_world.specs.Turns.{answer_by, next_place, made_by}
-use Rattle.ham_world.specs.Runs.{Run, state_of, words_of, IsNext, IsRun}
+use Rattle.ham_world.specs.Runs.{Run, state_of, words_of, IsNext, IsRun, issue_refusal, as_step_refusal, refusal_of, note_of}
 use Rattle.ham_world.specs.Headline.{InvariantHolds, DecidesExactly, EachDecidesExactly, IsFaithful}
-use Rattle.ham_world.proofs.Deciding.{state_more, state_same}
+use Rattle.ham_world.proofs.Deciding.{state_more, state_same, taken_is}
 
 -- the state after one event more satisfies the invariant, by the outcome that was answered
 keeps_by : (o : Schema) (earlier : List Note) (n : Note) (place : Place) (u : Outcome) → AllHold o (state_of o earlier) → n.answer ≡ answer_by place u → IsOutcome o (state_of o earlier) n.act u → AllHold o (state_of o (n ∷ earlier))
@@ -64,3 +68,15 @@ each_exact one o (n ∷ earlier) run = (decides_by one o (state_of o earlier) n.
 
 pub faithful : OneOutcome → (o : Schema) (notes : List Note) → IsChecked o → IsRun o notes → IsFaithful (record { object = o; notes = notes })
 faithful one o notes checked run = record { run = run; invariant = invariant_holds o notes checked run; exact = each_exact one o notes run }
+
+-- ---- a run goes on
+
+accepted_by : (here : Bool) (why : Option IssueRefusal) → (if not here then Some step.NoSuchReplica else as_step_refusal why) ≡ None → why ≡ None
+accepted_by true None e = refl
+accepted_by true (Some r) e = absurd cc
+accepted_by false why e = absurd cc
+
+pub goes_on : (r : Run) (e : Event) → IsRun r.object r.notes → refusal_of r e ≡ None → IsRun r.object (note_of r e ∷ r.notes)
+goes_on r (Issue replica act) run e =
+    let taken = taken_is r.object r.notes act (accepted_by (replica == 1) (issue_refusal r.object r.notes act) e) in
+    (record { replica = refl; fits = taken.fits; has_room = taken.has_room; answer = refl }, run)
