@@ -1,7 +1,8 @@
 -- The arguments that fit make each step of an act small, and there are few.
-use Rattle.std.proofs.Common.{◌≡◌, ℕ, zero, suc, ◌^◌, ◌≤◌, ◌<◌, Bool, true, List, [], ◌∷◌, length, get_or, map, Option, Some, None, refl, arith}
+use Rattle.std.proofs.Common.{◌≡◌, ℕ, zero, suc, ◌^◌, ◌≤◌, ◌<◌, Bool, true, List, [], ◌∷◌, length, get_or, map, Option, Some, None, refl, ap, ◌∙◌, arith}
 use Rattle.std.specs.Prelude.{pos, neg_ℤ, nat_abs, IfSome, slice_get, ◌==◌}
 use Rattle.std.specs.List.{AllByRecursion, list_all, zip}
+use Rattle.std.proofs.lemmas.List.{length-map}
 use Rattle.std.proofs.lemmas.Bool.{leb-true, eqb-true, and_parts}
 use Rattle.ham_syntax.specs.declared.act.Act.{Act}
 use Rattle.ham_syntax.specs.declared.object.Counter.{Counter}
@@ -15,6 +16,7 @@ use Rattle.ham_syntax.specs.declared.term.Term.{Term}
 use Rattle.ham_syntax.specs.declared.term.Term.TheVariants.{Param, Const, Any}
 use Rattle.ham_syntax.specs.Objects.{Schema, args_fit, method_fits, max_amount, fits_kind, args_fit_params}
 use Rattle.ham_syntax.specs.Checked.{IsChecked, IsMethod, IsEffect, IsAmount}
+use Rattle.ham_state.specs.declared.step.Step.{Step}
 use Rattle.ham_state.specs.Steps.{IsWithin}
 use Rattle.ham_meaning.specs.Meaning.{number, step_of, effects_by, effects_of, net_of}
 
@@ -78,3 +80,13 @@ module _ (o : Schema) (act : Act) (checked : IsChecked o) where
 
   pub few_effects : length (effects_of o act) ≤ 8
   few_effects = few_by o.counters (slice_get o.methods act.method) (some_at (IsMethod o.counters) o.methods act.method checked.each_method)
+
+-- the steps that are made of the effects
+pub net_is : (o : Schema) (act : Act) (args : List ℕ) (effects : List Effect) (made : List Step) → args ≡ act.args → effects ≡ effects_of o act → made ≡ map (step_of args) effects → made ≡ net_of o act
+net_is o act args effects made e f g = g ∙ (λ i. map (step_of (e i)) (f i))
+
+pub few_net : (o : Schema) (act : Act) (effects : List Effect) → effects ≡ effects_of o act → length effects ≤ 8 → length (net_of o act) ≤ 8
+few_net o act effects e few =
+    let same = length-map (effects_of o act) (step_of act.args) in
+    let long = ap length e in
+    omega arith

@@ -1,12 +1,12 @@
 //! What acts do to states, and when they are permissible.
 #![tactic(auto)]
 
-pub mod ahead;
+mod ahead;
 pub mod issued;
 pub mod laws;
 pub mod meaning;
 pub mod outcome;
-pub mod steps;
+mod steps;
 
 pub use issued::Issued;
 pub use meaning::{apply, invariant_holds, net, permissible};

@@ -133,5 +133,8 @@ pub fn apply(object: &Object, state: &mut State, act: &Act) -> Result<(), NoMemo
     ensures unchanged { OnErr result (state.new ≡ state.old) }
     ensures small { (n : ℕ) → ((c k : ℕ) → nat_abs (value state.old c k) ≤ n) → (c k : ℕ) → nat_abs (value state.new c k) ≤ n + 2 ^ 35 }
 {
-    state.apply_net(&net(object, act))
+    let effects = effects_of(object, act);
+    let mut steps = [NOTHING; 8];
+    fill(&mut steps, effects, act.args.items());
+    state.apply_all(&steps[..effects.len()])
 }

@@ -94,3 +94,26 @@ pub fn gains(effects: &[Effect], args: &[u64], counter: u8, key: u64) -> i128
     }
     sum
 }
+
+#[cfg(test)]
+mod tests {
+    use super::*;
+
+    #[test]
+    fn effects_on_one_key_add_up(rt: HostRuntime) {
+        let at = |key: Term, amount: u64| Effect::Add {
+            counter: 2,
+            key: Some(key),
+            amount: Term::Const(amount),
+        };
+        let taken = Effect::Subtract {
+            counter: 2,
+            key: Some(Term::Param(0)),
+            amount: Term::Param(1),
+        };
+        let effects = [at(Term::Param(0), 5), at(Term::Const(9), 100), taken];
+        assert_eq!(rt; gains(&effects, &[7, 30], 2, 7), -25);
+        assert_eq!(rt; gains(&effects, &[7, 30], 2, 9), 100);
+        assert_eq!(rt; gains(&effects, &[7, 30], 1, 7), 0);
+    }
+}

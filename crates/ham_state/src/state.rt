@@ -241,10 +241,67 @@ impl State {
         ensures applied { OnOk result (self.new ≡ after_steps net.now self.old) }
         ensures unchanged { OnErr result (self.new ≡ self.old) }
     {
-        let steps = net.items();
+        self.apply_all(net.items())
+    }
+
+    /// Takes the steps in order, as `apply_net` does, with no copy of them in a net.
+    pub fn apply_all(&mut self, steps: &[Step]) -> Result<(), NoMemory>
+        requires few { length steps.now ≤ 8 }
+        requires values { (c k : ℕ) → nat_abs (value self.old c k) ≤ 2 ^ 100 }
+        requires small { AllByRecursion (IsWithin (2 ^ 50)) steps.now }
+        ensures applied { OnOk result (self.new ≡ after_steps steps.now self.old) }
+        ensures unchanged { OnErr result (self.new ≡ self.old) }
+    {
         self.facts.reserve(steps.len())?;
         self.amounts.reserve(steps.len())?;
         apply_steps(&mut self.facts, &mut self.amounts, steps);
+        Ok(())
+    }
+}
+
+#[cfg(test)]
+mod tests {
+    use super::*;
+
+    fn opening_state(alloc: Global) -> State
+        ensures { result ≡ opening }
+    {
+        State {
+            facts: Vec::new(alloc),
+            amounts: Vec::new(alloc),
+        }
+    }
+
+    #[test]
+    fn steps_are_taken_in_order(rt: HostRuntime) -> Result<(), NoMemory> {
+        let mut state = opening_state(rt.alloc());
+        let row = Row::new(&[4, 5]).unwrap();
+        let gone = Terms::new(&[Term::Const(4), Term::Any]).unwrap();
+        let net = [
+            Step::Insert { relation: 1, row },
+            Step::Change {
+                counter: 0,
+                key: 8,
+                by: 30,
+            },
+            Step::Change {
+                counter: 0,
+                key: 8,
+                by: -50,
+            },
+            Step::Delete {
+                relation: 2,
+                pattern: gone,
+            },
+        ];
+        state.apply_net(&Net::new(&net).unwrap())?;
+        assert!(rt; state.has(1, &gone));
+        assert!(rt; !state.has(2, &gone));
+        let one_column = Terms::new(&[Term::Any]).unwrap();
+        assert!(rt; !state.has(1, &one_column));
+        assert_eq!(rt; state.value(0, 8), -20);
+        assert_eq!(rt; state.value(0, 9), 0);
+        assert_eq!(rt; state.amounts().len(), 1);
         Ok(())
     }
 }

@@ -100,6 +100,22 @@ impl Model for Object {
 }
 
 impl Object {
+    /// The object of these parts.
+    pub(crate) fn of_parts(
+        counters: Items<Counter>,
+        invariants: Items<Invariant>,
+        methods: Items<Method>,
+    ) -> Object
+        requires { IsChecked (record { counters = counters; invariants = invariants; methods = methods }) }
+        ensures { result ≡ record { counters = counters; invariants = invariants; methods = methods } }
+    {
+        Object {
+            counters,
+            invariants,
+            methods,
+        }
+    }
+
     /// The counters, in file order.
     pub fn counters(&self) -> &[Counter]
         ensures counters { result.now ≡ self.now.counters }
@@ -154,7 +170,7 @@ impl Object {
 /// The greatest amount, of an argument and of a constant.
 pub const MAX_AMOUNT: u64 = 4_294_967_295;
 
-fn fits_kind(kind: Kind, argument: u64) -> bool
+pub(crate) fn fits_kind(kind: Kind, argument: u64) -> bool
     ensures { result ≡ objects.fits_kind kind argument }
 {
     match kind {
@@ -178,7 +194,7 @@ fn each_fits(params: &[Param], args: &[u64]) -> bool
         .all(|(param, argument)| fits_kind(param.kind, *argument))
 }
 
-fn counter_place(counters: &[Counter], name: &Name) -> Option<usize>
+pub(crate) fn counter_place(counters: &[Counter], name: &Name) -> Option<usize>
     ensures place { result ≡ position (λ c. pointwise nat_eq c.name name.now) counters.now }
     ensures within { IfSome result (λ i. i < length counters.now) }
 {

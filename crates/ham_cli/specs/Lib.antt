@@ -1,0 +1,9 @@
+pub mod Commands
+pub mod Exits
+pub mod Runs
+pub use Rattle.ham_syntax.specs.Objects
+pub use Rattle.ham_bytes.specs.Outside
+pub use Rattle.ham_bytes.specs.Causes
+pub use Rattle.ham_objfile.specs.Accepted
+pub use Rattle.ham_world.specs.Headline
+pub use Rattle.ham_replay.specs.Replays

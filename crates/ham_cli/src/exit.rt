@@ -1,0 +1,35 @@
+//! How the program ends.
+
+ghost use Rattle.std.specs.Prelude.{◌≡◌};
+
+/// The exits, with their numbers.
+#[derive(Clone, Copy, Debug, PartialEq, Eq)]
+pub enum Exit {
+    /// The text was written to its end.
+    Done = 0,
+    /// The words have none of the shapes; the usage line was written.
+    Usage = 1,
+    /// The object's file is not taken, which was written.
+    ObjectRefused = 2,
+    /// A line of the schedule is refused, which was written after the text of the lines before it.
+    ScheduleRefused = 3,
+    /// The shelf failed, and nothing was written.
+    ReadFault = 4,
+    /// The sink failed; a front of the text was written.
+    WriteFault = 5,
+    /// Memory ran out; a front of the text was written.
+    NoMemory = 6,
+    /// A file is longer than its limit, and nothing was written.
+    TooLong = 7,
+}
+
+impl Exit {
+    ghost use Rattle.ham_cli.specs.Exits.{number_of};
+
+    /// The status that the process ends with.
+    pub fn number(self) -> u8
+        ensures { result ≡ number_of self }
+    {
+        self as u8
+    }
+}

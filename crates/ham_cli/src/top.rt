@@ -1,0 +1,58 @@
+//! The top call.
+
+ghost use Rattle.std.specs.Prelude.{◌≡◌, ◌≤◌, Some, IfSome};
+ghost use Rattle.ham_bytes.specs.Causes.{Rose};
+ghost use Rattle.ham_cli.specs.Commands.{seen};
+ghost use Rattle.ham_cli.specs.Exits.{PutsLine, IsCounted};
+ghost use Rattle.ham_cli.specs.Runs as runs;
+
+use crate::command::{Command, command_of};
+use crate::exit::Exit;
+use crate::replays::run_replay;
+use ham_bytes::{Shelf, Sink, SinkFault, Words, put_all};
+use ham_objfile::accepted_as_one;
+use std::alloc::Global;
+
+const USAGE: &[u8] = b"usage: hamsaz tables OBJECT N; derive OBJECT sc or pr or pl M N; derive OBJECT is M; check OBJECT FILE; normal OBJECT; replay OBJECT SCHEDULE; bulk OBJECT SEED N ROUNDS; script OBJECT SEED N ROUNDS; node OBJECT ME BASES\n";
+
+/// Does what the words after the program's name ask: it fetches the files that they name, and writes the command's
+/// text. It waits for nobody and returns.
+pub fn run<H: Shelf, K: Sink>(alloc: Global, words: &Words, shelf: &mut H, out: &mut K) -> Exit
+    ensures ends { runs.Ends words.now (H.held shelf.old) (K.taken out.old) (K.taken out.new) result }
+    ensures complete { IfSome (H.held shelf.old) (λ files. runs.Completes words.now files (Rose (H.faults shelf.old) (H.faults shelf.new)) (Rose (K.faults out.old) (K.faults out.new)) result) }
+    ensures read { result ≡ Exit.ReadFault → Rose (H.faults shelf.old) (H.faults shelf.new) }
+    ensures write { result ≡ Exit.WriteFault → Rose (K.faults out.old) (K.faults out.new) }
+{
+    // The law by which an object's file has one meaning: completeness rests on it.
+    accepted_as_one();
+    match command_of(words.items()) {
+        Some(command) => perform(alloc, command, shelf, out),
+        None => usage(out),
+    }
+}
+
+fn perform<H: Shelf, K: Sink>(
+    alloc: Global,
+    command: Command<'_>,
+    shelf: &mut H,
+    out: &mut K,
+) -> Exit
+    ensures ends { IfSome (H.held shelf.old) (λ files. runs.EndsAs (Some (seen command.entry)) files (K.taken out.old) (K.taken out.new) result) }
+    ensures counted { IsCounted (H.faults shelf.old) (H.faults shelf.new) (K.faults out.old) (K.faults out.new) result }
+{
+    match command {
+        Command::Replay { object, schedule } => run_replay(alloc, object, schedule, shelf, out),
+    }
+}
+
+/// Writes the usage line.
+fn usage<K: Sink>(out: &mut K) -> Exit
+    ensures ends { PutsLine (K.taken out.old) (K.taken out.new) runs.usage_line Exit.Usage result }
+    ensures later { K.faults out.old ≤ K.faults out.new }
+    ensures cause { result ≡ Exit.WriteFault → Rose (K.faults out.old) (K.faults out.new) }
+{
+    match put_all(out, USAGE) {
+        Ok(()) => Exit::Usage,
+        Err(SinkFault) => Exit::WriteFault,
+    }
+}

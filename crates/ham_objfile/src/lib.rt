@@ -1,0 +1,13 @@
+//! Objects in files: the plain form, and its reader.
+#![tactic(auto)]
+
+mod fault;
+mod draft;
+mod line;
+mod reader;
+mod taken;
+mod words;
+
+pub use fault::FileFault;
+pub use line::PlainLine;
+pub use reader::{accepted_as_one, read, read_raw};

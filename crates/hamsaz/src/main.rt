@@ -1,0 +1,36 @@
+//! The program: the words of the command line, files and standard output, handed to the top call.
+#![tactic(auto)]
+
+use ham_bytes::{FileShelf, OutSink, Words};
+use ham_cli::{Exit, run};
+use std::alloc::Global;
+use std::env;
+use std::io;
+use std::process::ExitCode;
+use std::rt::Env;
+
+/// The words after the program's name; none where they can't be read as text.
+fn words_of(rt: &impl Env, alloc: Global) -> Result<Words, Exit> {
+    let mut words = Words::new(alloc);
+    let Ok(all) = env::args(rt) else {
+        return Ok(words);
+    };
+    for word in all.skip(1) {
+        if words.push(word.as_str().as_bytes()).is_err() {
+            return Err(Exit::NoMemory);
+        }
+    }
+    Ok(words)
+}
+
+fn main(rt: HostRuntime) -> io::Result<ExitCode> {
+    let alloc = rt.alloc();
+    let words = match words_of(&rt, alloc) {
+        Ok(words) => words,
+        Err(exit) => return Ok(ExitCode::from(exit.number())),
+    };
+    let mut shelf = FileShelf::new(rt.clone()?);
+    let mut out = OutSink::new(io::writer(&rt));
+    let exit = run(alloc, &words, &mut shelf, &mut out);
+    Ok(ExitCode::from(exit.number()))
+}
