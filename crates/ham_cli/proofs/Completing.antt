@@ -1,9 +1,8 @@
 -- A replay of an accepted object and an allowed schedule ends well, unless something outside fails.
-use Rattle.std.proofs.Common.{◌≡◌, ℕ, ◌+◌, ◌≤◌, ◌<◌, List, [], length, Option, Some, None, ◌⊎◌, inl, inr, refl, sym, ap, subst, ◌∙◌, arith}
+use Rattle.std.proofs.Common.{◌≡◌, ℕ, ◌<◌, List, length, Option, Some, None, ◌⊎◌, inl, inr, refl, sym, subst, ◌∙◌, arith}
 use Rattle.std.specs.Prelude.{IsSome, IfSome}
 use Rattle.ham_syntax.specs.Objects.{Schema}
 use Rattle.ham_bytes.specs.declared.shelf.File.{File}
-use Rattle.ham_bytes.specs.Outside.{file_of, TakesWhole, TakesSome}
 use Rattle.ham_objfile.specs.Accepted.{IsAccepted, IsAcceptedAsOne}
 use Rattle.ham_replay.specs.Replays.{played}
 use Rattle.ham_cli.specs.declared.exit.Exit.{Exit}
@@ -11,7 +10,7 @@ use Rattle.ham_cli.specs.declared.exit.Exit.TheVariants as exits
 use Rattle.ham_bytes.specs.Causes.{Rose}
 use Rattle.ham_cli.specs.Exits.{IsCounted}
 use Rattle.ham_cli.specs.Commands.{Asked, Replays, asked}
-use Rattle.ham_cli.specs.Runs.{HasFile, HasObject, HasNoObject, IsTooLong, Plays, EndsAtObject, EndsAtSchedule, EndsReplay, EndsAs, Completes, max_object, max_schedule}
+use Rattle.ham_cli.specs.Runs.{HasFile, HasObject, HasNoObject, IsTooLong, EndsAtObject, EndsAtSchedule, EndsReplay, EndsAs, Completes, max_object, max_schedule}
 
 same_some : (a b : List ℕ) → Some a ≡ Some b → a ≡ b
 same_some a b e = cc

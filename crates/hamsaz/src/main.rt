@@ -7,10 +7,11 @@ use std::alloc::Global;
 use std::env;
 use std::io;
 use std::process::ExitCode;
+use std::alloc::Alloc;
 use std::rt::Env;
 
 /// The words after the program's name; none where they can't be read as text.
-fn words_of(rt: &impl Env, alloc: Global) -> Result<Words, Exit> {
+fn words_of(rt: &(impl Env + Alloc), alloc: Global) -> Result<Words, Exit> {
     let mut words = Words::new(alloc);
     let Ok(all) = env::args(rt) else {
         return Ok(words);

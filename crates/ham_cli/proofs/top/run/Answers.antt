@@ -1,0 +1,10 @@
+-- How `run` completes a replay.
+use Rattle.std.proofs.Common.{sym, ap, ◌∙◌}
+use Rattle.ham_cli.specs.Commands.{asked}
+use Rattle.ham_cli.proofs.Completing.{completes}
+use Rattle.ham_cli.proofs.top.run.Goals as goal
+
+pub returns-in-Some-clause-complete : goal.returns-in-Some-clause-complete
+returns-in-Some-clause-complete g c =
+    completes c.accepted_as_one.ensures _ _ _ _ _ _ _ _ _ c.perform.result c.perform.ensures.counted
+    (ap asked (sym c.items.ensures) ∙ c.in-Some.ensures) c.perform.ensures.ends
