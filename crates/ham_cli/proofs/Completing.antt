@@ -41,7 +41,7 @@ refused_there o p s t e f none = subst (λ (x : List ℕ). (played p x).refused 
 
 -- the object is accepted, so a replay doesn't end there but for a fault
 at_object : (files : List File) (name : List ℕ) (o : Schema) (before now : Option (List ℕ)) (reads_failed writes_failed : Type 0) (exit : Exit) → HasObject files name o → ¬ reads_failed → ¬ writes_failed
-  → (exit ≡ exits.ReadFault → reads_failed) → (exit ≡ exits.WriteFault → writes_failed) → EndsAtObject files name before now exit → (exit ≡ exits.Done) ⊎ (exit ≡ exits.NoMemory)
+    → (exit ≡ exits.ReadFault → reads_failed) → (exit ≡ exits.WriteFault → writes_failed) → EndsAtObject files name before now exit → (exit ≡ exits.Done) ⊎ (exit ≡ exits.NoMemory)
 at_object files name o before now R W exits.ObjectRefused h r w read write e = absurd (is_refused files name o h e.0)
 at_object files name o before now R W exits.WriteFault h r w read write e = absurd (w (write refl))
 at_object files name o before now R W exits.TooLong h r w read write e = absurd (not_too_long files name max_object h.bytes h.file e.0)
@@ -53,7 +53,7 @@ at_object files name o before now R W exits.Usage h r w read write e = absurd e
 
 -- the schedule's lines are all allowed, so a replay doesn't end before their end but for a fault
 at_schedule : (files : List File) (name s : List ℕ) (o p : Schema) (before now : Option (List ℕ)) (reads_failed writes_failed : Type 0) (exit : Exit) → o ≡ p → HasFile files name max_schedule s → (played o s).refused ≡ None
-  → ¬ reads_failed → ¬ writes_failed → (exit ≡ exits.ReadFault → reads_failed) → (exit ≡ exits.WriteFault → writes_failed) → EndsAtSchedule p files name before now exit → (exit ≡ exits.Done) ⊎ (exit ≡ exits.NoMemory)
+    → ¬ reads_failed → ¬ writes_failed → (exit ≡ exits.ReadFault → reads_failed) → (exit ≡ exits.WriteFault → writes_failed) → EndsAtSchedule p files name before now exit → (exit ≡ exits.Done) ⊎ (exit ≡ exits.NoMemory)
 at_schedule files name s o p before now R W exits.Done same h none r w read write e = inl refl
 at_schedule files name s o p before now R W exits.ScheduleRefused same h none r w read write e =
     absurd (not_both (played p e.0).refused (refused_there o p s e.0 same (one_file files name max_schedule max_schedule s e.0 h e.1.file) none) e.2)
@@ -65,7 +65,7 @@ at_schedule files name s o p before now R W exits.ObjectRefused same h none r w 
 at_schedule files name s o p before now R W exits.Usage same h none r w read write e = absurd e
 
 ended_by : IsAcceptedAsOne → (files : List File) (asks : Asked) (object schedule s : List ℕ) (o : Schema) (before now : Option (List ℕ)) (reads_failed writes_failed : Type 0) (exit : Exit) → (exit ≡ exits.ReadFault → reads_failed) → (exit ≡ exits.WriteFault → writes_failed)
-  → asks ≡ Replays object schedule → EndsAs (Some asks) files before now exit → HasObject files object o → HasFile files schedule max_schedule s → (played o s).refused ≡ None → ¬ reads_failed → ¬ writes_failed → (exit ≡ exits.Done) ⊎ (exit ≡ exits.NoMemory)
+    → asks ≡ Replays object schedule → EndsAs (Some asks) files before now exit → HasObject files object o → HasFile files schedule max_schedule s → (played o s).refused ≡ None → ¬ reads_failed → ¬ writes_failed → (exit ≡ exits.Done) ⊎ (exit ≡ exits.NoMemory)
 ended_by one files asks object schedule s o before now R W exit read write is ends has_object has_schedule none r w =
     let replay : EndsReplay files object schedule before now exit = subst (λ (x : Asked). EndsAs (Some x) files before now exit) is ends in
     elim replay [
@@ -84,7 +84,7 @@ write_by shelf shelf_now sink sink_now exit counted e = subst (IsCounted shelf s
 
 -- what a command that ended so completes
 pub completes : IsAcceptedAsOne → (words : List (List ℕ)) (held : Option (List File)) (asks : Asked) (before now : Option (List ℕ)) (shelf shelf_now sink sink_now : ℕ) (exit : Exit) → IsCounted shelf shelf_now sink sink_now exit
-  → asked words ≡ Some asks → IfSome held (λ files. EndsAs (Some asks) files before now exit) → IfSome held (λ files. Completes words files (Rose shelf shelf_now) (Rose sink sink_now) exit)
+    → asked words ≡ Some asks → IfSome held (λ files. EndsAs (Some asks) files before now exit) → IfSome held (λ files. Completes words files (Rose shelf shelf_now) (Rose sink sink_now) exit)
 completes one words None asks before now shelf shelf_now sink sink_now exit counted is ends = tt
 completes one words (Some files) asks before now shelf shelf_now sink sink_now exit counted is ends = λ object schedule o s shape has_object has_schedule none r w.
     ended_by one files asks object schedule s o before now (Rose shelf shelf_now) (Rose sink sink_now) exit (read_by shelf shelf_now sink sink_now exit counted) (write_by shelf shelf_now sink sink_now exit counted)

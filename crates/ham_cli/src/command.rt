@@ -21,7 +21,11 @@ pub enum Command<'a> {
 pub fn command_of(words: &[Word]) -> Option<Command<'_>>
     ensures { MatchOption result (commands.asked words.now ≡ None) (λ command. commands.asked words.now ≡ Some (commands.seen command)) }
 {
-    if are_text(words) { shape_of(words) } else { None }
+    if are_text(words) {
+        shape_of(words)
+    } else {
+        None
+    }
 }
 
 fn shape_of(words: &[Word]) -> Option<Command<'_>>

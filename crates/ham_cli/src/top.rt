@@ -13,7 +13,8 @@ use ham_bytes::{Shelf, Sink, SinkFault, Words, put_all};
 use ham_objfile::accepted_as_one;
 use std::alloc::Global;
 
-const USAGE: &[u8] = b"usage: hamsaz tables OBJECT N; derive OBJECT sc or pr or pl M N; derive OBJECT is M; check OBJECT FILE; normal OBJECT; replay OBJECT SCHEDULE; bulk OBJECT SEED N ROUNDS; script OBJECT SEED N ROUNDS; node OBJECT ME BASES\n";
+const USAGE: &[u8] =
+    b"usage: hamsaz tables OBJECT N; derive OBJECT sc or pr or pl M N; derive OBJECT is M; check OBJECT FILE; normal OBJECT; replay OBJECT SCHEDULE; bulk OBJECT SEED N ROUNDS; script OBJECT SEED N ROUNDS; node OBJECT ME BASES\n";
 
 /// Does what the words after the program's name ask: it fetches the files that they name, and writes the command's
 /// text. It waits for nobody and returns.

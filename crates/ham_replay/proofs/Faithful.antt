@@ -1,19 +1,18 @@
 -- The run of a schedule is a run: each line that is answered adds the next note, or none.
-use Rattle.std.proofs.Common.{◌≡◌, ℕ, ◌+◌, ◌<◌, Bool, true, false, not, ◌==◌, nat_lt, nat_le, List, [], ◌∷◌, length, Option, Some, None, refl, sym, ap, subst, ◌∙◌}
+use Rattle.std.proofs.Common.{◌≡◌, ℕ, ◌+◌, Bool, true, false, List, [], ◌∷◌, Option, Some, None, refl, sym, subst}
 use Rattle.std.specs.Prelude.{if◌then◌else◌}
 use Rattle.ham_syntax.specs.Objects.{Schema}
 use Rattle.ham_syntax.specs.Checked.{IsChecked}
 use Rattle.ham_lines.specs.declared.answer.Answer.{Answer}
 use Rattle.ham_world.specs.declared.event.Event.{Event}
-use Rattle.ham_world.specs.declared.event.Event.TheVariants.{Issue}
 use Rattle.ham_world.specs.declared.event.Note.{Note}
 use Rattle.ham_world.specs.declared.event.StepRefusal.{StepRefusal}
-use Rattle.ham_world.specs.Runs.{Run, IsNext, IsRun, refusal_of, note_of, noted, issue_refusal}
+use Rattle.ham_world.specs.Runs.{Run, IsRun, refusal_of, note_of, noted}
 use Rattle.ham_world.specs.Headline.{IsFaithful}
 use Rattle.ham_replay.specs.declared.line.Line.{Line}
 use Rattle.ham_replay.specs.declared.line.Line.TheVariants.{Replicas, Act, Show}
 use Rattle.ham_replay.specs.Lines.{line_of}
-use Rattle.ham_replay.specs.Replays.{Turn, Refuses, Answers, Played, turn_at, turn_of, event_turn, begun, is_replicas, played_from, played_lines, played, then_played, refused_at, answer_line}
+use Rattle.ham_replay.specs.Replays.{Turn, Refuses, Answers, turn_at, turn_of, event_turn, begun, is_replicas, played_from, played_lines, played, then_played, refused_at, answer_line}
 use Rattle.ham_replay.specs.declared.end.LineRefusal.TheVariants.{NotYet}
 use Rattle.ham_lines.specs.declared.answer.Answer.TheVariants as answers
 use Rattle.ham_text.specs.Cuts.{lines_of}
@@ -47,7 +46,7 @@ played_by number r l ls (Refuses why) e = rw (played_from, e) refl
 played_by number r l ls (Answers new a) e = rw (played_from, e) refl
 
 after_by : GoesOn → (o : Schema) (number : ℕ) (r : Run) (l : List ℕ) (ls : List (List ℕ)) (t : Turn) → turn_of r l ≡ t → IsRunOf o r → ((new : Run) → IsRunOf o new → IsRunOf o (played_from (number + 1) new ls).run)
-  → IsRunOf o (played_from number r (l ∷ ls)).run
+    → IsRunOf o (played_from number r (l ∷ ls)).run
 after_by go o number r l ls (Refuses why) e h rest = subst (IsRunOf o) (sym (played_by number r l ls (Refuses why) e)) h
 after_by go o number r l ls (Answers new a) e h rest = subst (IsRunOf o) (sym (played_by number r l ls (Answers new a) e)) (rest new (after_turn go o r new l a e h))
 

@@ -1,5 +1,5 @@
 -- A schedule that is played line by line.
-use Rattle.std.proofs.Common.{◌≡◌, ℕ, ◌+◌, ◌≤◌, ◌<◌, List, [], ◌∷◌, ◌++◌, length, Bool, true, false, Option, Some, None, Result, Ok, Err, refl, sym, ap, subst, ◌∙◌, arith, append_assoc}
+use Rattle.std.proofs.Common.{◌≡◌, ℕ, ◌+◌, ◌≤◌, List, [], ◌∷◌, ◌++◌, length, true, false, Option, Some, None, Result, Ok, Err, refl, sym, ap, ◌∙◌, arith}
 use Rattle.std.proofs.lemmas.List.{append-nil}
 use Rattle.ham_bytes.specs.Outside.{TakesSome}
 use Rattle.ham_bytes.specs.Gathered.{Carries}
@@ -10,7 +10,6 @@ use Rattle.ham_world.specs.Runs.{Run}
 use Rattle.ham_text.specs.Cuts.{lines_of}
 use Rattle.ham_replay.specs.declared.end.LineRefusal.{LineRefusal}
 use Rattle.ham_replay.specs.declared.end.LineRefusal.TheVariants.{NotYet}
-use Rattle.ham_replay.specs.declared.end.Refusal.{Refusal}
 use Rattle.ham_replay.specs.declared.line.Line.{Line}
 use Rattle.ham_replay.specs.Lines.{line_of}
 use Rattle.ham_syntax.specs.Objects.{Schema}
@@ -18,7 +17,7 @@ use Rattle.ham_lines.specs.declared.answer.Answer.TheVariants as answers
 use Rattle.ham_replay.specs.declared.end.Stop.{Stop}
 use Rattle.ham_replay.specs.declared.turn.LineEnd.TheVariants.{Answered, Refused}
 use Rattle.ham_replay.specs.Ends.{IsTurn, Gathers}
-use Rattle.ham_replay.specs.Replays.{Turn, Refuses, Answers, Played, turn_of, answer_line, refusal_text, refused_at, then_played, played_from, begun, is_replicas, played, played_lines}
+use Rattle.ham_replay.specs.Replays.{Turn, Refuses, Answers, Played, turn_of, answer_line, refused_at, then_played, played_from, begun, is_replicas, played, played_lines}
 
 -- ---- one line more of what is played
 
@@ -67,8 +66,8 @@ begins before held faults whole = record { sending = Sending-start before held w
 
 -- a line was answered
 pub goes_on : (before mid now : Option (List ℕ)) (held holds holds_now : List ℕ) (faults faults_mid faults_now : ℕ) (whole rest rest_now : Played) (a : Answer)
-  → Playing before mid held holds faults faults_mid whole rest → rest ≡ then_played (answer_line a) rest_now → Carries mid (holds ++ answer_line a) now holds_now → faults_mid ≤ faults_now
-  → Playing before now held holds_now faults faults_now whole rest_now
+    → Playing before mid held holds faults faults_mid whole rest → rest ≡ then_played (answer_line a) rest_now → Carries mid (holds ++ answer_line a) now holds_now → faults_mid ≤ faults_now
+    → Playing before now held holds_now faults faults_now whole rest_now
 goes_on before mid now held holds holds_now faults faults_mid faults_now whole rest rest_now a p e put later = record {
   sending = Sending-write before mid now (held ++ whole.text) holds holds_now rest.text (answer_line a) rest_now.text p.sending put (ap (λ (q : Played). q.text) e);
   refused = p.refused ∙ ap (λ (q : Played). q.refused) e;
@@ -88,7 +87,7 @@ stops before mid held holds faults faults_mid whole rest p =
 
 -- a front of a text was put, with which what is left begins
 pub stops_in : (before mid now : Option (List ℕ)) (held holds : List ℕ) (faults faults_mid : ℕ) (whole rest rest_now : Played) (text : List ℕ)
-  → Playing before mid held holds faults faults_mid whole rest → rest ≡ then_played text rest_now → TakesSome mid now (holds ++ text) → TakesSome before now (held ++ whole.text)
+    → Playing before mid held holds faults faults_mid whole rest → rest ≡ then_played text rest_now → TakesSome mid now (holds ++ text) → TakesSome before now (held ++ whole.text)
 stops_in before mid now held holds faults faults_mid whole rest rest_now text p e put =
     Sending-fault before mid now (held ++ whole.text) holds rest.text text rest_now.text p.sending put (ap (λ (q : Played). q.text) e)
 
@@ -98,7 +97,7 @@ last_sent before mid now held holds holds_now faults faults_mid whole rest text 
 
 -- what is left was sent, or cut short
 pub finish : {A : Type 0} (before mid now : Option (List ℕ)) (held holds holds_now : List ℕ) (faults faults_mid : ℕ) (whole rest : Played) (text : List ℕ) (result : Result A Stop)
-  → Playing before mid held holds faults faults_mid whole rest → rest.text ≡ text → Gathers mid holds now holds_now text result → Gathers before held now holds_now whole.text result
+    → Playing before mid held holds faults faults_mid whole rest → rest.text ≡ text → Gathers mid holds now holds_now text result → Gathers before held now holds_now whole.text result
 finish before mid now held holds holds_now faults faults_mid whole rest text (Ok value) p e put = last_sent before mid now held holds holds_now faults faults_mid whole rest text p e put
 finish before mid now held holds holds_now faults faults_mid whole rest text (Err stop) p e put =
     Sending-fault before mid now (held ++ whole.text) holds rest.text text [] p.sending put (e ∙ sym (append-nil text))
@@ -119,6 +118,6 @@ unfolding played_lines
 no_world o schedule line rest found e is first = ap (played_lines o) e ∙ rw (ap is_replicas (sym is) ∙ first) refl
 
 pub makes_world : (o : Schema) (world : Run) (schedule line rest : List ℕ) (found : Option Line) → world ≡ begun o → lines_of schedule ≡ line ∷ lines_of rest → found ≡ line_of o line → is_replicas found ≡ true
-  → played o schedule ≡ then_played (answer_line (answers.Replicas 1)) (played_from 2 world (lines_of rest))
+    → played o schedule ≡ then_played (answer_line (answers.Replicas 1)) (played_from 2 world (lines_of rest))
 makes_world o world schedule line rest found made e is first =
     begins_world o schedule line rest e (ap is_replicas (sym is) ∙ first) ∙ ap (λ (r : Run). then_played (answer_line (answers.Replicas 1)) (played_from 2 r (lines_of rest))) (sym made)

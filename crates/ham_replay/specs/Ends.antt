@@ -4,7 +4,6 @@ use Rattle.ham_bytes.specs.Causes.{Rose}
 use Rattle.ham_bytes.specs.Outside.{TakesWhole, TakesSome}
 use Rattle.ham_bytes.specs.Gathered.{Carries}
 use Rattle.ham_world.specs.Runs.{Run}
-use Rattle.ham_replay.specs.declared.end.Refusal.{Refusal}
 use Rattle.ham_replay.specs.declared.end.Stop.{Stop}
 use Rattle.ham_replay.specs.declared.end.Stop.TheVariants.{Sink, Memory}
 use Rattle.ham_replay.specs.declared.end.ReplayEnd.{ReplayEnd}

@@ -100,7 +100,7 @@ played_from number r [] = record { text = answer_line answers.End; refused = Non
 played_from number r (l ∷ ls) = elim (turn_of r l) [
   | Refuses why ↦ refused_at r (record { line = number; why = why })
   | Answers r' answer ↦ then_played (answer_line answer) (played_from (number + 1) r' ls)
-  ]
+]
 
 -- the run before its first event
 abbrev pub begun : Schema → Run
@@ -117,8 +117,8 @@ is_replicas (Some (Show c)) = false
 unfoldable pub played_lines : Schema → List (List ℕ) → Played
 played_lines o [] = refused_at (begun o) (record { line = 1; why = NotYet })
 played_lines o (l ∷ ls) = if is_replicas (line_of o l)
-  then then_played (answer_line (answers.Replicas 1)) (played_from 2 (begun o) ls)
-  else refused_at (begun o) (record { line = 1; why = NotYet })
+    then then_played (answer_line (answers.Replicas 1)) (played_from 2 (begun o) ls)
+    else refused_at (begun o) (record { line = 1; why = NotYet })
 
 abbrev pub played : Schema → List ℕ → Played
 played o schedule = played_lines o (lines_of schedule)

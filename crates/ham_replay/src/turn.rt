@@ -27,7 +27,9 @@ pub fn turn(alloc: Global, world: &mut World<'_>, line: &[u8]) -> Result<LineEnd
     match read_line(alloc, world.object(), line)? {
         None => Ok(LineEnd::Refused(LineRefusal::NotYet)),
         Some(Line::Replicas) => Ok(LineEnd::Refused(LineRefusal::NotYet)),
-        Some(Line::Show { counter }) => Ok(LineEnd::Answered(Answer::Value(world.value(counter, 0)))),
+        Some(Line::Show { counter }) => Ok(LineEnd::Answered(Answer::Value(world.value(
+            counter, 0,
+        )))),
         Some(Line::Act(event)) => take(alloc, world, event),
     }
 }

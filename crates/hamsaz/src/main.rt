@@ -3,12 +3,10 @@
 
 use ham_bytes::{FileShelf, OutSink, Words};
 use ham_cli::{Exit, run};
-use std::alloc::Global;
-use std::env;
-use std::io;
+use std::alloc::{Alloc, Global};
 use std::process::ExitCode;
-use std::alloc::Alloc;
 use std::rt::Env;
+use std::{env, io};
 
 /// The words after the program's name; none where they can't be read as text.
 fn words_of(rt: &(impl Env + Alloc), alloc: Global) -> Result<Words, Exit> {

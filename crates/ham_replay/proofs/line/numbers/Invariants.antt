@@ -8,5 +8,5 @@ abbrev pub invariant-loop-i : goal.invariant-loop-i
 invariant-loop-i l =
     record {
       room : length l.numbers ≡ 6;
-      read : option_map (λ ys. take l.i l.numbers ++ ys) (all_there (map number_of (drop l.i l.words))) ≡ all_there (map number_of l.words)
+      read : option_map (λ ys. take l.i l.numbers ++ ys) (all_there (map number_of (drop l.i l.words))) ≡ all_there (map number_of l.words);
     }

@@ -2,7 +2,7 @@ use Rattle.std.proofs.Common.{Ok, Err, ap, sym, ◌∙◌, arith}
 use Rattle.std.proofs.lemmas.Bool.{eqb-true}
 use Rattle.std.proofs.lemmas.Result.{err_from_is_err_and}
 use Rattle.ham_replay.specs.Replays.{Played}
-use Rattle.ham_replay.proofs.Playing.{begins, goes_on, stops, stops_in, finish, ended, next_answered, next_refused}
+use Rattle.ham_replay.proofs.Playing.{goes_on, stops, stops_in, finish, ended, next_answered, next_refused}
 use Rattle.ham_replay.proofs.play.play_rest.Goals as goal
 
 pub loop-rest-preserved : goal.loop-rest-preserved

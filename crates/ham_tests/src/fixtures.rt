@@ -1,0 +1,41 @@
+//! What the runs share: the bank, and the words of a replay.
+
+use ham_bytes::{MemShelf, MemSink, Words};
+use ham_cli::{Exit, run};
+use std::alloc::Global;
+use std::test::Fail;
+
+/// An account that stays at zero or above.
+pub const BANK: &[u8] =
+    b"hamsaz object 1\ncounter balance plain\ninvariant low balance 0\nmethod deposit\nparam a amount\neffect add balance a\nmethod withdraw\nparam a amount\neffect subtract balance a\nend\n";
+
+/// A shelf that holds an object named `bank` and a schedule named `plan`.
+pub fn shelf_of(alloc: Global, object: &[u8], schedule: &[u8]) -> Result<MemShelf, Fail> {
+    let mut shelf = MemShelf::new(alloc);
+    shelf.add(b"bank", object)?;
+    shelf.add(b"plan", schedule)?;
+    Ok(shelf)
+}
+
+/// The words of a command.
+pub fn words_of(alloc: Global, all: &[&[u8]]) -> Result<Words, Fail> {
+    let mut words = Words::new(alloc);
+    for word in all {
+        words.push(word)?;
+    }
+    Ok(words)
+}
+
+/// Replays a schedule of an object, with room for the text.
+pub fn replay_of(
+    alloc: Global,
+    object: &[u8],
+    schedule: &[u8],
+    room: usize,
+) -> Result<(Exit, MemSink), Fail> {
+    let words = words_of(alloc, &[b"replay", b"bank", b"plan"])?;
+    let mut shelf = shelf_of(alloc, object, schedule)?;
+    let mut sink = MemSink::new(alloc, room, 16)?;
+    let exit = run(alloc, &words, &mut shelf, &mut sink);
+    Ok((exit, sink))
+}

@@ -1,0 +1,11 @@
+//! Runs of the top call over shelves and sinks in memory. It has nothing but tests.
+#![tactic(auto)]
+
+#[cfg(test)]
+mod faults;
+#[cfg(test)]
+mod fixtures;
+#[cfg(test)]
+mod limits;
+#[cfg(test)]
+mod runs;
