@@ -1,7 +1,7 @@
 -- What an answer says of the tests and steps that led to it.
-use Rattle.std.proofs.Common.{◌≡◌, ◌⊎◌, ℕ, Bool, true, false, ◌&&◌, cond, List, [], ◌∷◌, Option, Some, None, refl, sym, ap, ◌∙◌, subst, inl, inr}
+use Rattle.std.proofs.Common.{◌≡◌, ◌⊎◌, ℕ, Bool, true, false, ◌&&◌, cond, List, Option, Some, None, refl, sym, ap, ◌∙◌, inl, inr}
 use Rattle.std.specs.Prelude.{option_map}
-use Rattle.std.specs.Cmp.Lexicographic.{same_text, nat_list_eq_equiv}
+use Rattle.std.specs.Cmp.Lexicographic.{same_text}
 use Rattle.ham_objfile.specs.Reading.{◌>>=◌, is_text, if_word}
 
 pub both : (a b : Bool) → (a && b) ≡ true → (a ≡ true) × (b ≡ true)

@@ -1,5 +1,5 @@
 -- Files and the objects that they are read as.
-use Rattle.std.proofs.Common.{◌≡◌, ℕ, Bool, true, false, cond, List, [], ◌∷◌, Option, Some, None, Result, Ok, Err, refl, sym, ap, ◌∙◌, subst}
+use Rattle.std.proofs.Common.{◌≡◌, ℕ, Bool, true, cond, List, [], ◌∷◌, Option, Some, None, Result, Ok, Err, refl, sym, ap, ◌∙◌, subst}
 use Rattle.std.specs.Prelude.{IsTrue, IfOk}
 use Rattle.ham_syntax.specs.declared.raw.Raw.{Raw}
 use Rattle.ham_syntax.specs.declared.raw.Ill.{Ill}
@@ -9,7 +9,7 @@ use Rattle.ham_syntax.specs.Resolved.{resolved}
 use Rattle.ham_objfile.specs.declared.fault.FileFault.{FileFault}
 use Rattle.ham_objfile.specs.declared.fault.FileFault.TheVariants.{NotYet, NoMemory}
 use Rattle.ham_objfile.specs.Plain.{IsProper, plain_form}
-use Rattle.ham_objfile.specs.Accepted.{IsPlainText, is_taken, IsAccepted, IsAcceptedAsOne}
+use Rattle.ham_objfile.specs.Accepted.{is_taken, IsAccepted, IsAcceptedAsOne}
 use Rattle.ham_objfile.specs.Reading.{◌>>=◌, Finds}
 use Rattle.ham_objfile.specs.Drafts.{raw_of, without_fault, checked_of, taken_of, object_of}
 use Rattle.ham_objfile.proofs.Choices.{only, steps, same_some}

@@ -1,12 +1,12 @@
 -- Objects and their lines, both ways.
-use Rattle.std.proofs.Common.{◌≡◌, ◌==◌, ℕ, ◌+◌, ◌<◌, Bool, true, false, ◌&&◌, List, [], ◌∷◌, ◌++◌, length, Option, Some, None, refl, sym, ap, ◌∙◌, subst, inl, inr, append_assoc, append-nil, arith}
-use Rattle.std.specs.Prelude.{IsTrue, map, option_map}
+use Rattle.std.proofs.Common.{◌≡◌, ◌==◌, ℕ, ◌<◌, true, ◌&&◌, List, [], ◌∷◌, ◌++◌, length, Option, Some, None, refl, sym, ap, ◌∙◌, subst, append_assoc, append-nil, arith}
+use Rattle.std.specs.Prelude.{map}
 use Rattle.std.specs.List.{AllByRecursion, flat_map, join_with_byte}
 use Rattle.std.proofs.lemmas.Bool.{eqb-true}
 use Rattle.std.proofs.lemmas.List.{nil_from_length}
 use Rattle.std.proofs.lemmas.List.Concat.{flat_map-append}
 use Rattle.std.proofs.lemmas.List.Elements.{All-from_recursion}
-use Rattle.std.proofs.lemmas.List.Splits.{slice_split_at, join_with_byte-slice_split, length-slice_split}
+use Rattle.std.proofs.lemmas.List.Splits.{slice_split_at, join_with_byte-slice_split}
 use Rattle.ham_text.specs.Cuts.{parts_of}
 use Rattle.ham_syntax.specs.declared.object.Counter.{Counter}
 use Rattle.ham_syntax.specs.declared.object.Param.{Param}
@@ -21,9 +21,9 @@ use Rattle.ham_objfile.specs.declared.draft.Draft.TheVariants.{Nothing, Head, Bo
 use Rattle.ham_objfile.specs.declared.draft.Front.{Front}
 use Rattle.ham_objfile.specs.Plain.{line_words, line_text, method_lines, plain_lines, plain_form, IsProperLine, IsProper}
 use Rattle.ham_objfile.specs.Reading.{◌>>=◌, line_of}
-use Rattle.ham_objfile.specs.Drafts.{has_none, front_with, and_method, with_param, with_guard, with_effect, body_with, opened_with, draft_with, whole_of, finished, read_from, raw_of}
+use Rattle.ham_objfile.specs.Drafts.{has_none, front_with, and_method, with_param, with_guard, with_effect, body_with, opened_with, draft_with, whole_of, read_from, raw_of}
 use Rattle.ham_objfile.proofs.Choices.{both, only, steps, mapped, same_some}
-use Rattle.ham_objfile.proofs.Wording.{Spells, line_spelled, line_back}
+use Rattle.ham_objfile.proofs.Wording.{line_spelled, line_back}
 use Rattle.ham_objfile.proofs.Spaces.{line_solid, joined_apart, joined_clear}
 use Rattle.ham_objfile.proofs.Lines.{read_line_first}
 

@@ -1,8 +1,7 @@
 -- Texts as lines.
-use Rattle.std.proofs.Common.{◌≡◌, ◌==◌, ℕ, ◌+◌, ◌<◌, List, [], ◌∷◌, length, Option, Some, None, refl, arith}
+use Rattle.std.proofs.Common.{◌≡◌, ◌==◌, ℕ, ◌<◌, List, [], ◌∷◌, length, refl, arith}
 use Rattle.std.proofs.lemmas.List.Splits.{length-slice_split}
 use Rattle.ham_text.specs.Cuts.{parts_of}
-use Rattle.ham_syntax.specs.declared.raw.Raw.{Raw}
 use Rattle.ham_objfile.specs.declared.draft.Draft.{Draft}
 use Rattle.ham_objfile.specs.Reading.{◌>>=◌, line_of}
 use Rattle.ham_objfile.specs.Drafts.{draft_with, read_from}

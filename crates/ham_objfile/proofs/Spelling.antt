@@ -1,13 +1,12 @@
 -- Words and what they stand for, both ways.
-use Rattle.std.proofs.Common.{◌≡◌, ◌==◌, ℕ, suc, ◌+◌, ◌-◌, ◌^◌, ◌<◌, ◌≤◌, Bool, true, false, ◌&&◌, nat_lt, nat_le, cond, List, [], ◌∷◌, ◌++◌, length, get_or, Option, Some, None, refl, sym, ap, ◌∙◌, subst, inl, inr, arith, lt-ltb}
-use Rattle.std.specs.Prelude.{IsTrue, IfSome, ℤ, pos, negsuc, codes, map}
-use Rattle.std.specs.List.{AllByRecursion, list_all}
+use Rattle.std.proofs.Common.{◌≡◌, ◌==◌, ℕ, suc, ◌+◌, ◌-◌, ◌^◌, ◌<◌, ◌≤◌, Bool, true, false, ◌&&◌, nat_lt, nat_le, List, [], ◌∷◌, get_or, Option, Some, None, refl, ap, ◌∙◌, subst, inl, inr, arith, lt-ltb}
+use Rattle.std.specs.Prelude.{IsTrue, IfSome, ℤ, pos, negsuc, codes}
 use Rattle.std.specs.Fmt.{decimal, signed_decimal}
 use Rattle.std.proofs.lemmas.Bool.{ltb-true, leb-true, eqb-true, cases_lt}
 use Rattle.std.proofs.lemmas.Bool.Decides.{nat_tests}
-use Rattle.std.proofs.lemmas.Fmt.{decimal_digit, first_decimal, decimal_nonempty}
+use Rattle.std.proofs.lemmas.Fmt.{decimal_digit, first_decimal}
 use Rattle.ham_text.specs.Numbers.{is_numeral, value_after, number_of}
-use Rattle.ham_text.proofs.Numerals.{spelled, complete, Numeral, numeral_is}
+use Rattle.ham_text.proofs.Numerals.{spelled, complete}
 use Rattle.ham_syntax.specs.declared.object.Kind.{Kind}
 use Rattle.ham_syntax.specs.declared.object.Kind.TheVariants.{Id, Amount}
 use Rattle.ham_syntax.specs.declared.raw.Verb.{Verb}
@@ -18,7 +17,7 @@ use Rattle.ham_syntax.specs.Names.{is_name}
 use Rattle.ham_objfile.specs.declared.words.Keyword.{Keyword}
 use Rattle.ham_objfile.specs.declared.words.Keyword.TheVariants as keywords
 use Rattle.ham_objfile.specs.Plain.{keyed_word, kind_word, verb_word, term_word, IsLimit, IsProperTerm}
-use Rattle.ham_objfile.specs.Reading.{◌>>=◌, is_text, if_word, keyword_of, keyed_of, kind_of, verb_of, name_of, constant_of, term_of, positive_of, negative_of, limit_of}
+use Rattle.ham_objfile.specs.Reading.{◌>>=◌, is_text, keyword_of, keyed_of, kind_of, verb_of, name_of, constant_of, term_of, positive_of, negative_of, limit_of}
 use Rattle.ham_objfile.proofs.Choices.{both, either, chosen, only, steps, mapped, same_some, text_is, pick}
 
 abbrev pub keyword_word : Keyword → List ℕ

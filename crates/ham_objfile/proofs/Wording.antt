@@ -1,5 +1,5 @@
 -- Lines and their words, both ways.
-use Rattle.std.proofs.Common.{◌≡◌, ℕ, Bool, true, false, ◌&&◌, List, [], ◌∷◌, ◌++◌, length, Option, Some, None, refl, sym, ap, ◌∙◌, subst, inl, inr, append_assoc, append-nil}
+use Rattle.std.proofs.Common.{◌≡◌, ℕ, true, List, [], ◌∷◌, ◌++◌, Option, Some, None, refl, sym, ap, ◌∙◌, subst, inl, inr, append_assoc, append-nil}
 use Rattle.std.specs.Prelude.{IsTrue, ℤ, codes, map, option_map}
 use Rattle.std.specs.List.{AllByRecursion}
 use Rattle.std.specs.Fmt.{signed_decimal}
@@ -15,7 +15,7 @@ use Rattle.ham_objfile.specs.declared.words.Keyword.TheVariants as keywords
 use Rattle.ham_objfile.specs.declared.line.PlainLine.{PlainLine}
 use Rattle.ham_objfile.specs.declared.line.PlainLine.TheVariants as lines
 use Rattle.ham_objfile.specs.Plain.{keyed_word, kind_word, verb_word, term_word, part_words, invariant_words, line_words, IsLimit, IsProperTerm, IsProperPart, IsProperInvariant, IsProperLine}
-use Rattle.ham_objfile.specs.Reading.{◌>>=◌, is_text, if_word, keyword_of, keyed_of, kind_of, verb_of, name_of, term_of, limit_of, single_of, pair_of, is_version, opening_of, counter_of, param_of, method_of, sided, invariant_of, terms_from, part_of, end_of, line_after, line_of}
+use Rattle.ham_objfile.specs.Reading.{◌>>=◌, is_text, keyword_of, keyed_of, kind_of, verb_of, name_of, term_of, limit_of, single_of, pair_of, is_version, opening_of, counter_of, param_of, method_of, sided, invariant_of, terms_from, part_of, end_of, line_after, line_of}
 use Rattle.ham_objfile.proofs.Choices.{both, either, only, steps, mapped, same_some, text_is}
 use Rattle.ham_objfile.proofs.Spelling.{keyword_word, keyword_spelled, keyword_back, keyed_spelled, keyed_back, kind_spelled, kind_back, verb_spelled, verb_back, name_spelled, name_back, term_spelled, term_back, limit_spelled, limit_back}
 

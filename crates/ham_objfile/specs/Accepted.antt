@@ -27,6 +27,7 @@ is_one_plain [] = false
 is_one_plain (c ∷ []) = not c.keyed
 is_one_plain (c ∷ d ∷ cs) = false
 
+-- a lower limit
 abbrev pub is_low : Invariant → Bool
 is_low (Low c limit) = true
 is_low (High c limit) = false
@@ -37,6 +38,7 @@ is_one_low [] = false
 is_one_low (i ∷ []) = is_low i
 is_one_low (i ∷ j ∷ is) = false
 
+-- an amount, and no id
 abbrev pub is_amount : Kind → Bool
 is_amount Id = false
 is_amount Amount = true

@@ -17,6 +17,7 @@ use Rattle.ham_syntax.specs.Resolved.{resolved}
 use Rattle.ham_objfile.specs.Accepted.{is_taken}
 use Rattle.ham_objfile.specs.Reading.{◌>>=◌, line_of}
 
+-- the list is empty
 abbrev pub has_none : {A : Type 0} → List A → Bool
 has_none xs = length xs == 0
 
@@ -43,9 +44,11 @@ with_param m p = if has_none m.guards && has_none m.effects then Some (record { 
 abbrev pub with_guard : RawMethod → RawPart → Option RawMethod
 with_guard m p = if has_none m.effects then Some (record { name = m.name; params = m.params; guards = m.guards ++ p ∷ []; effects = m.effects }) else None
 
+-- an effect may stand after all others
 abbrev pub with_effect : RawMethod → RawPart → RawMethod
 with_effect m p = record { name = m.name; params = m.params; guards = m.guards; effects = m.effects ++ p ∷ [] }
 
+-- a line after the first method
 abbrev pub body_with : Raw → RawMethod → PlainLine → Option Draft
 body_with raw m (lines.Param p) = option_map (λ n. Body raw n) (with_param m p)
 body_with raw m (lines.Guard p) = option_map (λ n. Body raw n) (with_guard m p)
@@ -56,6 +59,7 @@ body_with raw m lines.Opening = None
 body_with raw m (lines.Counter c) = None
 body_with raw m (lines.Invariant i) = None
 
+-- the first line is the opening one
 abbrev pub opened_with : PlainLine → Option Draft
 opened_with lines.Opening = Some (Head (record { counters = []; invariants = [] }))
 opened_with (lines.Counter c) = None
@@ -99,9 +103,11 @@ abbrev pub without_fault : List Ill → Schema → Option Schema
 without_fault [] o = Some o
 without_fault (fault ∷ faults) o = None
 
+-- a raw object, resolved where it has no fault
 unfoldable pub checked_of : Raw → Option Schema
 checked_of raw = without_fault (faults raw) (resolved raw)
 
+-- an object, where it is taken
 abbrev pub taken_of : Schema → Option Schema
 taken_of o = if is_taken o then Some o else None
 

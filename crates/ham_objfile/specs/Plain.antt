@@ -1,9 +1,7 @@
 -- Objects in plain form: the lines of a raw object, the words of each line, and the text that they make.
-use Rattle.std.specs.Prelude.{◌≡◌, ℕ, ◌^◌, ◌<◌, ◌≤◌, pos, ◌≤ℤ◌, ◌<ℤ◌, negsuc, ℤ, Bool, true, false, List, [], ◌∷◌, ◌++◌, map, IsTrue, codes}
-use Rattle.std.specs.List.{AllByRecursion, concat, flat_map, join_with_byte}
+use Rattle.std.specs.Prelude.{ℕ, ◌^◌, ◌<◌, pos, negsuc, ℤ, Bool, true, false, List, [], ◌∷◌, ◌++◌, map, IsTrue, codes}
+use Rattle.std.specs.List.{AllByRecursion, flat_map, join_with_byte}
 use Rattle.std.specs.Fmt.{decimal, signed_decimal}
-use Rattle.ham_syntax.specs.declared.object.Counter.{Counter}
-use Rattle.ham_syntax.specs.declared.object.Param.{Param}
 use Rattle.ham_syntax.specs.declared.object.Kind.{Kind}
 use Rattle.ham_syntax.specs.declared.object.Kind.TheVariants.{Id, Amount}
 use Rattle.ham_syntax.specs.declared.raw.Verb.{Verb}
@@ -19,14 +17,17 @@ use Rattle.ham_syntax.specs.Names.{is_name}
 use Rattle.ham_objfile.specs.declared.line.PlainLine.{PlainLine}
 use Rattle.ham_objfile.specs.declared.line.PlainLine.TheVariants as lines
 
+-- a counter is keyed or plain
 abbrev pub keyed_word : Bool → List ℕ
 keyed_word true = codes "keyed"
 keyed_word false = codes "plain"
 
+-- what a parameter is
 abbrev pub kind_word : Kind → List ℕ
 kind_word Id = codes "id"
 kind_word Amount = codes "amount"
 
+-- what a guard asks, or an effect does
 abbrev pub verb_word : Verb → List ℕ
 verb_word AtLeast = codes "atleast"
 verb_word AtMost = codes "atmost"
@@ -43,6 +44,7 @@ term_word (Named name) = name
 abbrev pub part_words : RawPart → List (List ℕ)
 part_words p = verb_word p.verb ∷ p.name ∷ map term_word p.terms
 
+-- a side, the name of a counter, and a limit
 abbrev pub invariant_words : RawInvariant → List (List ℕ)
 invariant_words (Low c limit) = codes "low" ∷ c ∷ signed_decimal limit ∷ []
 invariant_words (High c limit) = codes "high" ∷ c ∷ signed_decimal limit ∷ []
@@ -79,15 +81,18 @@ abbrev pub IsLimit : ℤ → Type 0
 IsLimit (pos n) = n < 2 ^ 63
 IsLimit (negsuc n) = n < 2 ^ 63
 
+-- a constant is of 64 bits, and a name is a name
 abbrev pub IsProperTerm : RawTerm → Type 0
 IsProperTerm Any = Unit {0}
 IsProperTerm (Constant n) = n < 2 ^ 64
 IsProperTerm (Named name) = IsTrue (is_name name)
 
+-- the name is a name, and each term is proper
 pub record IsProperPart (p : RawPart) : Type 0 where
   pub is_named : IsTrue (is_name p.name)
   pub each_term : AllByRecursion IsProperTerm p.terms
 
+-- the name is a name, and the limit is of 64 bits
 abbrev pub IsProperInvariant : RawInvariant → Type 0
 IsProperInvariant (Low c limit) = IsTrue (is_name c) × IsLimit limit
 IsProperInvariant (High c limit) = IsTrue (is_name c) × IsLimit limit

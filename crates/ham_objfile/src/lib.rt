@@ -1,8 +1,8 @@
 //! Objects in files: the plain form, and its reader.
 #![tactic(auto)]
 
-mod fault;
 mod draft;
+mod fault;
 mod line;
 mod reader;
 mod taken;
@@ -11,3 +11,6 @@ mod words;
 pub use fault::FileFault;
 pub use line::PlainLine;
 pub use reader::{accepted_as_one, read, read_raw};
+
+#[cfg(test)]
+mod tests;

@@ -2,7 +2,7 @@
 
 ghost use Rattle.std.specs.Prelude.{◌≡◌, IfOk};
 ghost use Rattle.ham_syntax.specs.Objects.{Schema};
-ghost use Rattle.ham_syntax.specs.declared.raw.Raw as raws;
+ghost use Rattle.ham_syntax.specs.declared.raw.Raw.{Raw};
 ghost use Rattle.ham_objfile.specs.Plain.{IsProper, plain_form};
 ghost use Rattle.ham_objfile.specs.Accepted.{IsAccepted, IsAcceptedAsOne};
 ghost use Rattle.ham_objfile.specs.Reading as reading;
@@ -45,7 +45,7 @@ fn finished(draft: Draft, last: &[u8]) -> Result<Raw, FileFault>
 /// The raw object that the bytes are the plain form of. `NotYet` exactly where they are that of none.
 pub fn read_raw(alloc: Global, bytes: &[u8]) -> Result<Raw, FileFault>
     ensures found { IfOk result (λ raw. IsProper raw × (bytes.now ≡ plain_form raw)) }
-    ensures refused { result ≡ Err FileFault.NotYet → (raw : raws.Raw) → IsProper raw → bytes.now ≡ plain_form raw → ⊥ }
+    ensures refused { result ≡ Err FileFault.NotYet → (raw : Raw) → IsProper raw → bytes.now ≡ plain_form raw → ⊥ }
 {
     read_lines(alloc, bytes)
 }
@@ -86,5 +86,4 @@ pub fn read(alloc: Global, bytes: &[u8]) -> Result<Object, FileFault>
 /// The bytes of a file are accepted as one object only.
 pub fn accepted_as_one()
     ensures { IsAcceptedAsOne }
-{
-}
+{}

@@ -121,7 +121,11 @@ pub fn read_limit(word: &[u8]) -> Option<i64>
 fn positive(size: u64) -> Option<i64>
     ensures { result ≡ reading.positive_of size }
 {
-    if size < 1 << 63 { Some(size as i64) } else { None }
+    if size < 1 << 63 {
+        Some(size as i64)
+    } else {
+        None
+    }
 }
 
 fn negative(size: u64) -> Option<i64>
