@@ -6,3 +6,4 @@ pub mod Gains
 pub mod Filling
 pub mod Small
 pub mod Bounded
+pub mod Lawful

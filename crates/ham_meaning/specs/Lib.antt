@@ -1,6 +1,8 @@
 pub mod First
 pub mod Meaning
 pub mod Ahead
+pub mod Relations
+pub mod OfObjects
 pub use Rattle.ham_state.specs.Content
 pub use Rattle.ham_state.specs.Steps
 pub use Rattle.ham_state.specs.Touch

@@ -6,6 +6,7 @@ pub mod issued;
 pub mod laws;
 pub mod meaning;
 pub mod outcome;
+pub mod relations;
 mod steps;
 
 pub use issued::Issued;
