@@ -8,4 +8,6 @@ mod fixtures;
 #[cfg(test)]
 mod limits;
 #[cfg(test)]
+mod replays;
+#[cfg(test)]
 mod runs;
