@@ -1,7 +1,6 @@
 -- A line that is split part by part.
-use Rattle.std.proofs.Common.{◌≡◌, ℕ, ◌+◌, ◌<◌, List, [], ◌∷◌, ◌++◌, length, Option, Some, None, refl, sym, ap, ◌∙◌, subst, arith, append_assoc}
+use Rattle.std.proofs.Common.{◌≡◌, ℕ, ◌+◌, ◌<◌, List, [], ◌∷◌, ◌++◌, length, Option, Some, None, refl, sym, ap, ◌∙◌, arith, append_assoc}
 use Rattle.std.specs.Prelude.{MatchOption, filter, not}
-use Rattle.std.proofs.lemmas.List.{append-nil}
 use Rattle.ham_text.specs.Cuts.{parts_of, is_empty, words_of}
 use Rattle.ham_lines.specs.Words.{kept}
 use denote.Bor.{Bor}
@@ -27,7 +26,7 @@ words_cut bytes word (Some r) parts = ap (filter (λ w. not (is_empty w))) parts
 
 -- one part more
 pub words_more : (all words new : List (List ℕ)) (bytes : Bor (List ℕ)) (word : List ℕ) (after : Option (Bor (List ℕ))) → words ++ words_left (Some bytes) ≡ all → new ≡ words ++ kept word
-  → MatchOption after (parts_of 32 bytes.now ≡ word ∷ []) (λ r. parts_of 32 bytes.now ≡ word ∷ parts_of 32 r.now) → new ++ words_left after ≡ all
+    → MatchOption after (parts_of 32 bytes.now ≡ word ∷ []) (λ r. parts_of 32 bytes.now ≡ word ∷ parts_of 32 r.now) → new ++ words_left after ≡ all
 words_more all words new bytes word after h e parts =
     ap (λ (ws : List (List ℕ)). ws ++ words_left after) e ∙ append_assoc words (kept word) (words_left after) ∙ ap (λ (ws : List (List ℕ)). words ++ ws) (sym (words_cut bytes.now word after parts)) ∙ h
 

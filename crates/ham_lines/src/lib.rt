@@ -7,3 +7,6 @@ pub mod words;
 pub use answer::{Answer, text};
 pub use ham_text::number;
 pub use words::split;
+
+#[cfg(test)]
+mod tests;

@@ -36,8 +36,8 @@ abbrev pub reason_of_issue : IssueRefusal → LineRefusal
 reason_of_issue issue.UnknownMethod = NotYet
 reason_of_issue issue.BadArgs = BadArguments
 reason_of_issue issue.LaneFull = LaneFull
-reason_of_issue issue.NoMemory = NotYet
 
+-- want of memory is no reason that `refusal_of` gives
 abbrev pub reason_of : StepRefusal → LineRefusal
 reason_of step.NoSuchReplica = NotYet
 reason_of (step.Issue r) = reason_of_issue r

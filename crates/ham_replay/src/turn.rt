@@ -70,6 +70,5 @@ fn reason_of_issue(refusal: IssueRefusal) -> LineRefusal
         IssueRefusal::UnknownMethod => LineRefusal::NotYet,
         IssueRefusal::BadArgs => LineRefusal::BadArguments,
         IssueRefusal::LaneFull => LineRefusal::LaneFull,
-        IssueRefusal::NoMemory => LineRefusal::NotYet,
     }
 }

@@ -1,6 +1,6 @@
 -- What a world keeps from one issue to the next.
-use Rattle.std.proofs.Common.{◌≡◌, ℕ, zero, suc, ◌+◌, ◌*◌, ◌^◌, ◌≤◌, ◌<◌, Bool, true, false, not, nat_lt, nat_le, List, [], ◌∷◌, ◌++◌, length, Option, Some, None, ℤ, pos, refl, sym, ap, subst, ◌∙◌, arith}
-use Rattle.std.specs.Prelude.{fold, nat_abs, reverse, option_to_list, if◌then◌else◌}
+use Rattle.std.proofs.Common.{◌≡◌, ℕ, ◌+◌, ◌*◌, ◌^◌, ◌≤◌, ◌<◌, Bool, true, false, not, nat_lt, nat_le, List, [], ◌∷◌, ◌++◌, length, Option, Some, None, ℤ, refl, sym, ap, subst, ◌∙◌, arith}
+use Rattle.std.specs.Prelude.{nat_abs, reverse, option_to_list, if◌then◌else◌}
 use Rattle.std.proofs.lemmas.List.{reverse-append, length-append}
 use Rattle.std.proofs.lemmas.List.Sums.{fold-append}
 use Rattle.ham_syntax.specs.declared.act.Act.{Act}
@@ -18,7 +18,7 @@ use Rattle.ham_world.specs.declared.event.Note.{Note}
 use Rattle.ham_world.specs.declared.event.IssueRefusal.TheVariants as issue
 use Rattle.std.proofs.lemmas.Bool.{leb-false}
 use Rattle.ham_world.specs.Turns.{room, answer_by, answer_of, made_by, next_place}
-use Rattle.ham_world.specs.Runs.{Run, log_of, state_after, state_of, words_of, IsNext, IsRun, issue_refusal, issue_note, noted}
+use Rattle.ham_world.specs.Runs.{log_of, state_after, state_of, words_of, IsNext, IsRun, issue_refusal, issue_note, noted}
 use Rattle.ham_world.specs.Worlds.{run_of, IsWorld}
 
 -- the run with the note that was kept last
@@ -42,8 +42,8 @@ log_same notes n e = ap (λ (m : Option Call). length (log_of notes ++ option_to
 
 -- the world with an issue that was applied
 pub goes_on : (o : Schema) (s new : State) (kept : List Note) (decided : ℕ) (act : Act) → IsWorld o s kept decided → args_fit o act ≡ true → decided < room → outcome_of o s act ≡ outcomes.Yes → new ≡ update o act s
-  → ((n : ℕ) → ((c k : ℕ) → nat_abs (value s c k) ≤ n) → (c k : ℕ) → nat_abs (value new c k) ≤ n + 2 ^ 35)
-  → IsWorld o new (kept ++ record { replica = 1; act = act; answer = Applied (record { lane = 0; number = decided + 1 }) } ∷ []) (decided + 1)
+    → ((n : ℕ) → ((c k : ℕ) → nat_abs (value s c k) ≤ n) → (c k : ℕ) → nat_abs (value new c k) ≤ n + 2 ^ 35)
+    → IsWorld o new (kept ++ record { replica = 1; act = act; answer = Applied (record { lane = 0; number = decided + 1 }) } ∷ []) (decided + 1)
 goes_on o s new kept decided act w fits has_room permitted is small =
     let earlier : List Note = reverse kept in
     let n : Note = record { replica = 1; act = act; answer = Applied (record { lane = 0; number = decided + 1 }) } in
@@ -73,7 +73,7 @@ impermissible_by place (outcomes.Invariant v) h = refl
 
 -- the world with an issue that was impermissible
 pub stays : (o : Schema) (s : State) (kept : List Note) (decided : ℕ) (act : Act) (u : Outcome) → IsWorld o s kept decided → args_fit o act ≡ true → decided < room → outcome_of o s act ≡ u → (u ≡ outcomes.Yes → ⊥)
-  → IsWorld o s (kept ++ record { replica = 1; act = act; answer = Impermissible u } ∷ []) decided
+    → IsWorld o s (kept ++ record { replica = 1; act = act; answer = Impermissible u } ∷ []) decided
 stays o s kept decided act u w fits has_room is forbidden =
     let earlier : List Note = reverse kept in
     let n : Note = record { replica = 1; act = act; answer = Impermissible u } in

@@ -1,5 +1,5 @@
 -- Every run is faithful: by induction on its notes.
-use Rattle.std.proofs.Common.{◌≡◌, ◌≢◌, ◌==◌, ℕ, Bool, true, false, not, List, [], ◌∷◌, Option, Some, None, refl, sym, ap, subst, ◌∙◌}
+use Rattle.std.proofs.Common.{◌≡◌, ◌≢◌, ◌==◌, Bool, true, false, not, List, [], ◌∷◌, Option, Some, None, refl, sym, ap, subst, ◌∙◌}
 use Rattle.std.specs.Prelude.{◌↔◌, if◌then◌else◌}
 use Rattle.ham_syntax.specs.declared.act.Act.{Act}
 use Rattle.ham_syntax.specs.declared.act.Call.{Call}
@@ -10,8 +10,8 @@ use Rattle.ham_state.specs.Content.{State}
 use Rattle.ham_meaning.specs.declared.outcome.Outcome.{Outcome}
 use Rattle.ham_meaning.specs.declared.outcome.Outcome.TheVariants.{Yes, Guard, Invariant}
 use Rattle.ham_meaning.specs.declared.issued.Issued.{Issued}
-use Rattle.ham_meaning.specs.declared.issued.Issued.TheVariants.{Applied, Impermissible}
-use Rattle.ham_meaning.specs.Meaning.{AllHold, IsOutcome, outcome_of, update}
+use Rattle.ham_meaning.specs.declared.issued.Issued.TheVariants.{Impermissible}
+use Rattle.ham_meaning.specs.Meaning.{AllHold, IsOutcome, outcome_of}
 use Rattle.ham_meaning.proofs.Computed.{outcome_exact, holds_opening}
 use Rattle.ham_world.specs.declared.event.Event.{Event}
 use Rattle.ham_world.specs.declared.event.Event.TheVariants.{Issue}
@@ -19,8 +19,8 @@ use Rattle.ham_world.specs.declared.event.IssueRefusal.{IssueRefusal}
 use Rattle.ham_world.specs.declared.event.StepRefusal.TheVariants as step
 use Rattle.ham_world.specs.declared.event.Note.{Note}
 use Rattle.ham_world.specs.Turns.{answer_by, next_place, made_by}
-use Rattle.ham_world.specs.Runs.{Run, state_of, words_of, IsNext, IsRun, issue_refusal, as_step_refusal, refusal_of, note_of}
-use Rattle.ham_world.specs.Headline.{InvariantHolds, DecidesExactly, EachDecidesExactly, IsFaithful}
+use Rattle.ham_world.specs.Runs.{Run, state_of, words_of, IsRun, issue_refusal, as_step_refusal, refusal_of, note_of}
+use Rattle.ham_world.specs.Headline.{InvariantHolds, EachDecidesExactly, IsFaithful}
 use Rattle.ham_world.proofs.Deciding.{state_more, state_same, taken_is}
 
 -- the state after one event more satisfies the invariant, by the outcome that was answered
@@ -58,9 +58,9 @@ OneOutcome = (o : Schema) (s : State) (act : Act) (x y : Outcome) → IsOutcome 
 
 decides_by : OneOutcome → (o : Schema) (s : State) (act : Act) (answer : Issued) (place : Place) → answer ≡ answer_by place (outcome_of o s act) → (u : Outcome) → (answer ≡ Impermissible u) ↔ (IsOutcome o s act u × (u ≢ Yes))
 decides_by one o s act answer place is u = (
-      λ e. (let p = named_by place (outcome_of o s act) u (sym is ∙ e) in (subst (IsOutcome o s act) p.0 (outcome_exact o s act), p.1)),
-      λ h. is ∙ ap (answer_by place) (one o s act (outcome_of o s act) u (outcome_exact o s act) h.0) ∙ names place u h.1,
-    )
+  λ e. (let p = named_by place (outcome_of o s act) u (sym is ∙ e) in (subst (IsOutcome o s act) p.0 (outcome_exact o s act), p.1)),
+  λ h. is ∙ ap (answer_by place) (one o s act (outcome_of o s act) u (outcome_exact o s act) h.0) ∙ names place u h.1,
+)
 
 each_exact : OneOutcome → (o : Schema) (notes : List Note) → IsRun o notes → EachDecidesExactly o notes
 each_exact one o [] run = tt

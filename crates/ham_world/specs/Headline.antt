@@ -4,7 +4,7 @@ use Rattle.std.specs.Prelude.{◌≡◌, ◌≢◌, ◌↔◌, List, [], ◌∷�
 use Rattle.ham_syntax.specs.Objects.{Schema}
 use Rattle.ham_meaning.specs.declared.outcome.Outcome.{Outcome}
 use Rattle.ham_meaning.specs.declared.outcome.Outcome.TheVariants.{Yes}
-use Rattle.ham_meaning.specs.declared.issued.Issued.TheVariants.{Applied, Impermissible}
+use Rattle.ham_meaning.specs.declared.issued.Issued.TheVariants.{Impermissible}
 use Rattle.ham_meaning.specs.Meaning.{AllHold, IsOutcome}
 use Rattle.ham_world.specs.declared.event.Note.{Note}
 use Rattle.ham_world.specs.Runs.{Run, IsRun, state_of}

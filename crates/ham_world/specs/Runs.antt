@@ -1,6 +1,6 @@
 -- Runs: lists of notes, each of which is the table of turns at what stood before it.
 -- The newest note comes first, so that what stood before a turn is the rest of the list.
-use Rattle.std.specs.Prelude.{◌≡◌, ℕ, ◌<◌, ◌≤◌, Bool, true, false, not, ◌==◌, nat_lt, nat_le, List, [], ◌∷◌, ◌++◌, length, Option, Some, None, Result, Ok, Err, fold, option_to_list, if◌then◌else◌}
+use Rattle.std.specs.Prelude.{◌≡◌, ◌<◌, true, not, ◌==◌, nat_lt, nat_le, List, [], ◌∷◌, ◌++◌, length, Option, Some, None, Result, Ok, Err, fold, option_to_list, if◌then◌else◌}
 use Rattle.ham_syntax.specs.declared.act.Act.{Act}
 use Rattle.ham_syntax.specs.declared.act.Call.{Call}
 use Rattle.ham_syntax.specs.Objects.{Schema, args_fit}

@@ -1,5 +1,5 @@
 -- The table of turns: what a replica answers to what it takes in. It speaks of the words of `Words` alone.
-use Rattle.std.specs.Prelude.{ℕ, ◌+◌, List, length, Option, Some, None}
+use Rattle.std.specs.Prelude.{ℕ, ◌+◌, List, Option, Some, None}
 use Rattle.ham_syntax.specs.declared.act.Act.{Act}
 use Rattle.ham_syntax.specs.declared.act.Call.{Call}
 use Rattle.ham_syntax.specs.declared.act.Place.{Place}

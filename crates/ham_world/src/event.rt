@@ -30,8 +30,6 @@ pub enum IssueRefusal {
     /// The lane has all the calls that it takes.
     #[error("lane full")]
     LaneFull,
-    #[error("out of memory")]
-    NoMemory,
 }
 
 /// Why a world doesn't take an event. The first that fits is named.

@@ -26,6 +26,6 @@ invariant_of-self-2 c =
 
 pub returns : goal.returns
 returns c = rw (← c.self.view_is) (
-      c.impermissible-note.ensures ∙ impermissible_note _ _ _ _ _ _ c.self.invariant (sym c.permissible-outcome.ensures.computed) c.in_default.not-Yes,
-      noted_is _ _ _ _ (kept_is _ _ _ _ _ c.keep-2.ensures c.reserve.ensures.items refl),
-    )
+  c.impermissible-note.ensures ∙ impermissible_note _ _ _ _ _ _ c.self.invariant (sym c.permissible-outcome.ensures.computed) c.in_default.not-Yes,
+  noted_is _ _ _ _ (kept_is _ _ _ _ _ c.keep-2.ensures c.reserve.ensures.items refl),
+)
