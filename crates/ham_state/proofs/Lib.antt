@@ -1,4 +1,8 @@
 pub mod ContentLaws
 pub mod LastTouch
+mod Ascending
 pub mod Scan
-pub mod OneEach
+mod Values
+mod Rows
+mod Same
+mod Opened

@@ -1,27 +1,21 @@
 //! The state of an object: rows in relations, and counters' amounts.
 
-ghost use Rattle.std.specs.Prelude.{◌≡◌, ℕ, ◌+◌, ◌^◌, ◌<◌, ◌≤◌, ◌+ℤ◌, ◌==◌, ◌&&◌, ◌||◌, not, if◌then◌else◌, pos, nat_abs, false, List, length, IfOk, IfSome, IfNone, OnOk, OnErr, Some, slice_get, vec_len, vec_capacity};
+ghost use Rattle.std.specs.Prelude.{◌≡◌, ◌↔◌, ℕ, ◌+◌, ◌^◌, ◌<◌, ◌≤◌, nat_abs, map, length, IfOk, OnOk, OnErr, IsTrue, Some, slice_get, vec_len, vec_capacity};
 ghost use Rattle.std.specs.List.{list_any, AllByRecursion};
-ghost use Rattle.ham_state.specs.Pattern.{fits, matches, is_row};
+ghost use Rattle.ham_state.specs.Pattern.{matches};
 ghost use Rattle.ham_state.specs.Content.{opening, value, rows};
 ghost use Rattle.ham_state.specs.Steps.{after_step, after_steps, IsWithin};
-ghost use Rattle.ham_state.specs.Kept.{kept, has_in, value_in, is_kept, OneEach, IsFirst};
+ghost use Rattle.ham_state.specs.Kept.{kept, value_in, AreKept, FactsAscend, AmountsAscend, NoneIsZero};
 
-use crate::row::Row;
+use crate::amounts::{amount_at, change_amount};
+use crate::facts::{Fact, delete_rows, insert_row, rows_of, some_match};
 use crate::step::{Net, Step};
-use ham_syntax::{NoMemory, Object, Term, Terms};
+use ham_syntax::{NoMemory, Object, Terms};
 use std::alloc::Global;
 use std::marker::Model;
 
-/// A row in a relation.
-#[derive(Clone, Copy, Debug)]
-struct Fact {
-    relation: u8,
-    row: Row,
-}
-
 /// A counter's amount at a key.
-#[derive(Clone, Copy, Debug)]
+#[derive(Clone, Copy, Debug, PartialEq, Eq)]
 pub struct Amount {
     pub counter: u8,
     pub key: u64,
@@ -43,142 +37,28 @@ impl Model for State {
 
     ghost coded = { content.coded_state };
 
-    ghost use Rattle.ham_state.specs.Kept.{kept, OneEach};
+    ghost use Rattle.ham_state.specs.Kept.{kept, AreKept};
 
     ghost view = { λ a. kept a.facts.items a.amounts.items };
 
-    ghost invariant = { λ a. OneEach a.amounts.items };
-}
-
-fn term_fits(term: Term, id: u64) -> bool
-    ensures { result ≡ fits term id }
-{
-    match term {
-        Term::Param(_) => false,
-        Term::Const(c) => c == id,
-        Term::Any => true,
-    }
-}
-
-fn row_matches(pattern: &[Term], row: &[u64]) -> bool
-    ensures { result ≡ matches pattern.now row.now }
-{
-    if pattern.len() != row.len() {
-        return false;
-    }
-    for (i, term) in pattern.iter().enumerate() {
-        if !term_fits(*term, row[i]) {
-            return false;
-        }
-    }
-    true
-}
-
-fn same_row(row: &[u64], other: &[u64]) -> bool
-    ensures { result ≡ is_row row.now other.now }
-{
-    row == other
-}
-
-fn some_match(facts: &[Fact], relation: u8, pattern: &[Term]) -> bool
-    ensures { result ≡ list_any (λ f. (f.relation == relation) && matches pattern.now f.row) facts.now }
-{
-    facts.iter().any(|fact| fact.relation == relation && row_matches(pattern, fact.row.items()))
-}
-
-fn has_fact(facts: &[Fact], relation: u8, row: &Row) -> bool
-    ensures { result ≡ has_in facts.now relation row.now }
-{
-    facts.iter().any(|fact| fact.relation == relation && same_row(fact.row.items(), row.items()))
-}
-
-/// There is room for the fact.
-fn insert_fact(facts: &mut Vec<Fact>, relation: u8, row: Row)
-    requires { vec_len facts.old < vec_capacity facts.old }
-    ensures contents { (q : ℕ) (x : List ℕ) → has_in facts.new.items q x ≡ (((relation == q) && is_row row x) || has_in facts.old.items q x) }
-    ensures len { vec_len facts.new ≤ vec_len facts.old + 1 }
-    ensures capacity { vec_capacity facts.new ≡ vec_capacity facts.old }
-{
-    if !has_fact(facts, relation, &row) {
-        facts.push_reserved(Fact { relation, row });
-    }
-}
-
-fn delete_facts(facts: &mut Vec<Fact>, relation: u8, pattern: &[Term])
-    ensures contents { (q : ℕ) (x : List ℕ) → has_in facts.new.items q x ≡ (has_in facts.old.items q x && not ((relation == q) && matches pattern.now x)) }
-    ensures len { vec_len facts.new ≤ vec_len facts.old }
-    ensures capacity { vec_capacity facts.new ≡ vec_capacity facts.old }
-{
-    facts.retain(|fact| !(fact.relation == relation && row_matches(pattern, fact.row.items())));
-}
-
-fn amount_at(amounts: &[Amount], counter: u8, key: u64) -> i128
-    ensures { result ≡ value_in amounts.now counter key }
-{
-    for amount in amounts {
-        if amount.counter == counter && amount.key == key {
-            return amount.number;
-        }
-    }
-    0
-}
-
-/// The first amount of the counter at the key.
-fn place_of(amounts: &[Amount], counter: u8, key: u64) -> Option<usize>
-    ensures found { IfSome result (λ i. IsFirst amounts.now counter key i) }
-    ensures none { IfNone result (is_kept amounts.now counter key ≡ false) }
-{
-    for (i, amount) in amounts.iter().enumerate() {
-        if amount.counter == counter && amount.key == key {
-            return Some(i);
-        }
-    }
-    None
-}
-
-/// There is room for the amount.
-fn change_amount(amounts: &mut Vec<Amount>, counter: u8, key: u64, by: i128)
-    requires room { vec_len amounts.old < vec_capacity amounts.old }
-    requires before { nat_abs (value_in amounts.old.items counter key) ≤ 2 ^ 110 }
-    requires step { nat_abs by ≤ 2 ^ 50 }
-    requires one_each { OneEach amounts.old.items }
-    ensures contents { (d l : ℕ) → value_in amounts.new.items d l ≡ (value_in amounts.old.items d l +ℤ (if (counter == d) && (key == l) then by else pos 0)) }
-    ensures one_each { OneEach amounts.new.items }
-    ensures len { vec_len amounts.new ≤ vec_len amounts.old + 1 }
-    ensures capacity { vec_capacity amounts.new ≡ vec_capacity amounts.old }
-{
-    match place_of(amounts, counter, key) {
-        Some(i) => {
-            let number = amounts[i].number + by;
-            amounts[i] = Amount {
-                counter,
-                key,
-                number,
-            };
-        }
-        None => amounts.push_reserved(Amount {
-            counter,
-            key,
-            number: by,
-        }),
-    }
+    ghost invariant = { λ a. AreKept a.facts.items a.amounts.items };
 }
 
 /// There is room for one more of each.
 fn apply_step(facts: &mut Vec<Fact>, amounts: &mut Vec<Amount>, step: &Step)
     requires room { (vec_len facts.old < vec_capacity facts.old) × (vec_len amounts.old < vec_capacity amounts.old) }
     requires values { (c k : ℕ) → nat_abs (value_in amounts.old.items c k) ≤ 2 ^ 110 }
-    requires one_each { OneEach amounts.old.items }
+    requires kept { AreKept facts.old.items amounts.old.items }
     requires small { IsWithin (2 ^ 50) step.now }
     ensures contents { kept facts.new.items amounts.new.items ≡ after_step step.now (kept facts.old.items amounts.old.items) }
-    ensures one_each { OneEach amounts.new.items }
+    ensures kept { AreKept facts.new.items amounts.new.items }
     ensures lengths { (vec_len facts.new ≤ vec_len facts.old + 1) × (vec_len amounts.new ≤ vec_len amounts.old + 1) }
     ensures capacities { (vec_capacity facts.new ≡ vec_capacity facts.old) × (vec_capacity amounts.new ≡ vec_capacity amounts.old) }
     ensures values { (c k : ℕ) (n : ℕ) → nat_abs (value_in amounts.old.items c k) ≤ n → nat_abs (value_in amounts.new.items c k) ≤ n + 2 ^ 50 }
 {
     match *step {
-        Step::Insert { relation, row } => insert_fact(facts, relation, row),
-        Step::Delete { relation, pattern } => delete_facts(facts, relation, pattern.items()),
+        Step::Insert { relation, row } => insert_row(facts, relation, row),
+        Step::Delete { relation, pattern } => delete_rows(facts, relation, pattern.items()),
         Step::Change { counter, key, by } => change_amount(amounts, counter, key, by),
     }
 }
@@ -189,10 +69,10 @@ fn apply_steps(facts: &mut Vec<Fact>, amounts: &mut Vec<Amount>, net: &[Step])
     requires room_facts { vec_len facts.old + length net.now ≤ vec_capacity facts.old }
     requires room_amounts { vec_len amounts.old + length net.now ≤ vec_capacity amounts.old }
     requires values { (c k : ℕ) → nat_abs (value_in amounts.old.items c k) ≤ 2 ^ 100 }
-    requires one_each { OneEach amounts.old.items }
+    requires kept { AreKept facts.old.items amounts.old.items }
     requires small { AllByRecursion (IsWithin (2 ^ 50)) net.now }
     ensures contents { kept facts.new.items amounts.new.items ≡ after_steps net.now (kept facts.old.items amounts.old.items) }
-    ensures one_each { OneEach amounts.new.items }
+    ensures kept { AreKept facts.new.items amounts.new.items }
 {
     for step in net {
         apply_step(facts, amounts, step);
@@ -212,29 +92,50 @@ impl State {
     }
 
     /// Whether a row of the relation matches the pattern: a constant matches its id, and `_` matches any. A pattern of
-    /// another length, or with a parameter, matches none.
+    /// another length, or with a parameter, matches none. A pattern of constants alone is found by halving; for another
+    /// the relation's rows are looked through.
     pub fn has(&self, relation: u8, pattern: &Terms) -> bool
         ensures { result ≡ list_any (matches pattern.now) (rows self.now relation) }
     {
         some_match(&self.facts, relation, pattern.items())
     }
 
-    /// What the counter is at the key; 0 where it was never changed.
+    /// What the counter is at the key; 0 where it was never changed. Found by halving.
     pub fn value(&self, counter: u8, key: u64) -> i128
         ensures { result ≡ value self.now counter key }
     {
         amount_at(&self.amounts, counter, key)
     }
 
-    /// The amounts that are kept, in no order: at most one of each counter and key, and all that are not 0.
+    /// The relation's rows, ascending column by column, each once.
+    pub fn rows(&self, relation: u8) -> &[Fact]
+        ensures rows { map (λ f. f.row) result.now ≡ rows self.now relation }
+        ensures relation { AllByRecursion (λ f. f.relation ≡ relation) result.now }
+        ensures ascend { FactsAscend result.now }
+    {
+        rows_of(&self.facts, relation)
+    }
+
+    /// The amounts that are not 0, ascending by counter and key.
     pub fn amounts(&self) -> &[Amount]
         ensures values { (c k : ℕ) → value self.now c k ≡ value_in result.now c k }
         ensures each { (i : ℕ) (a : Amount) → slice_get result.now i ≡ Some a → value self.now a.counter a.key ≡ a.number }
+        ensures not_zero { NoneIsZero result.now }
+        ensures ascend { AmountsAscend result.now }
     {
         &self.amounts
     }
 
-    /// Takes the steps in order, all of them or, where memory is short, none.
+    /// Whether the other state has the same rows and the same amounts.
+    pub fn equal(&self, other: &State) -> bool
+        ensures { IsTrue result ↔ (self.now ≡ other.now) }
+    {
+        self.facts.as_slice() == other.facts.as_slice()
+            && self.amounts.as_slice() == other.amounts.as_slice()
+    }
+
+    /// Takes the steps in order, all of them or, where memory is short, none. An insert, or a first change at a key,
+    /// moves what stands behind its place; a delete by a pattern with `_` looks through all rows.
     pub fn apply_net(&mut self, net: &Net) -> Result<(), NoMemory>
         requires values { (c k : ℕ) → nat_abs (value self.old c k) ≤ 2 ^ 100 }
         requires small { AllByRecursion (IsWithin (2 ^ 50)) net.now }
@@ -262,6 +163,8 @@ impl State {
 #[cfg(test)]
 mod tests {
     use super::*;
+    use crate::row::Row;
+    use ham_syntax::Term;
 
     fn opening_state(alloc: Global) -> State
         ensures { result ≡ opening }
@@ -272,27 +175,66 @@ mod tests {
         }
     }
 
+    /// What the steps make of the opening state.
+    fn made(alloc: Global, steps: &[Step]) -> Result<State, NoMemory>
+        requires few { length steps.now ≤ 8 }
+        requires small { AllByRecursion (IsWithin (2 ^ 50)) steps.now }
+        ensures { IfOk result (λ state. state ≡ after_steps steps.now opening) }
+    {
+        let mut state = opening_state(alloc);
+        state.apply_all(steps)?;
+        Ok(state)
+    }
+
+    fn row(ids: [u64; 2]) -> Row {
+        Row::new(&ids).unwrap()
+    }
+
+    fn insert(relation: u8, ids: [u64; 2]) -> Step
+        ensures { IsWithin (2 ^ 50) result }
+    {
+        Step::Insert {
+            relation,
+            row: row(ids),
+        }
+    }
+
+    fn change(counter: u8, key: u64, by: i128) -> Step
+        requires { nat_abs by ≤ 2 ^ 50 }
+        ensures { IsWithin (2 ^ 50) result }
+    {
+        Step::Change { counter, key, by }
+    }
+
+    fn terms(pattern: [Term; 2]) -> Terms {
+        Terms::new(&pattern).unwrap()
+    }
+
+    fn delete(relation: u8, pattern: [Term; 2]) -> Step
+        ensures { IsWithin (2 ^ 50) result }
+    {
+        Step::Delete {
+            relation,
+            pattern: terms(pattern),
+        }
+    }
+
+    fn fact(relation: u8, ids: [u64; 2]) -> Fact {
+        Fact {
+            relation,
+            row: row(ids),
+        }
+    }
+
     #[test]
     fn steps_are_taken_in_order(rt: HostRuntime) -> Result<(), NoMemory> {
         let mut state = opening_state(rt.alloc());
-        let row = Row::new(&[4, 5]).unwrap();
-        let gone = Terms::new(&[Term::Const(4), Term::Any]).unwrap();
+        let gone = terms([Term::Const(4), Term::Any]);
         let net = [
-            Step::Insert { relation: 1, row },
-            Step::Change {
-                counter: 0,
-                key: 8,
-                by: 30,
-            },
-            Step::Change {
-                counter: 0,
-                key: 8,
-                by: -50,
-            },
-            Step::Delete {
-                relation: 2,
-                pattern: gone,
-            },
+            insert(1, [4, 5]),
+            change(0, 8, 30),
+            change(0, 8, -50),
+            delete(2, [Term::Const(4), Term::Any]),
         ];
         state.apply_net(&Net::new(&net).unwrap())?;
         assert!(rt; state.has(1, &gone));
@@ -302,6 +244,105 @@ mod tests {
         assert_eq!(rt; state.value(0, 8), -20);
         assert_eq!(rt; state.value(0, 9), 0);
         assert_eq!(rt; state.amounts().len(), 1);
+        Ok(())
+    }
+
+    #[test]
+    fn rows_come_out_ascending(rt: HostRuntime) -> Result<(), NoMemory> {
+        let steps = [
+            insert(1, [9, 1]),
+            insert(1, [6, 3]),
+            insert(1, [4, 7]),
+            insert(2, [5, 5]),
+            insert(1, [6, 2]),
+            insert(0, [8, 8]),
+            insert(1, [4, 7]),
+        ];
+        let state = made(rt.alloc(), &steps)?;
+        let expected = [
+            fact(1, [4, 7]),
+            fact(1, [6, 2]),
+            fact(1, [6, 3]),
+            fact(1, [9, 1]),
+        ];
+        assert_eq!(rt; state.rows(1), expected.as_slice());
+        assert_eq!(rt; state.rows(2), [fact(2, [5, 5])].as_slice());
+        assert_eq!(rt; state.rows(3).len(), 0);
+        assert!(rt; state.has(1, &terms([Term::Const(9), Term::Const(1)])));
+        assert!(rt; !state.has(2, &terms([Term::Const(9), Term::Const(1)])));
+        assert!(rt; state.has(0, &terms([Term::Any, Term::Const(8)])));
+        Ok(())
+    }
+
+    #[test]
+    fn deletes_take_what_they_match(rt: HostRuntime) -> Result<(), NoMemory> {
+        let steps = [
+            insert(1, [9, 1]),
+            insert(1, [6, 3]),
+            insert(1, [6, 2]),
+            insert(1, [4, 7]),
+            insert(2, [6, 3]),
+            delete(1, [Term::Const(6), Term::Any]),
+            delete(1, [Term::Const(9), Term::Const(1)]),
+            delete(1, [Term::Const(9), Term::Const(2)]),
+        ];
+        let state = made(rt.alloc(), &steps)?;
+        assert_eq!(rt; state.rows(1), [fact(1, [4, 7])].as_slice());
+        assert_eq!(rt; state.rows(2), [fact(2, [6, 3])].as_slice());
+        Ok(())
+    }
+
+    #[test]
+    fn amounts_come_out_ascending_and_never_0(rt: HostRuntime) -> Result<(), NoMemory> {
+        let steps = [
+            change(3, 1, 5),
+            change(0, 9, 2),
+            change(0, 4, 7),
+            change(0, 5, 0),
+            change(3, 1, -5),
+            change(0, 9, -3),
+        ];
+        let state = made(rt.alloc(), &steps)?;
+        let expected = [
+            Amount {
+                counter: 0,
+                key: 4,
+                number: 7,
+            },
+            Amount {
+                counter: 0,
+                key: 9,
+                number: -1,
+            },
+        ];
+        assert_eq!(rt; state.amounts(), expected.as_slice());
+        assert_eq!(rt; state.value(3, 1), 0);
+        assert_eq!(rt; state.value(0, 9), -1);
+        Ok(())
+    }
+
+    #[test]
+    fn equal_states_are_made_in_any_order(rt: HostRuntime) -> Result<(), NoMemory> {
+        let state = made(
+            rt.alloc(),
+            &[insert(1, [9, 1]), insert(0, [6, 3]), change(0, 8, 3)],
+        )?;
+        let turned = [
+            change(0, 8, 1),
+            insert(0, [6, 3]),
+            change(2, 2, 6),
+            insert(1, [9, 1]),
+            change(0, 8, 2),
+            change(2, 2, -6),
+        ];
+        assert!(rt; state.equal(&made(rt.alloc(), &turned)?));
+        let fewer_rows = made(rt.alloc(), &[insert(1, [9, 1]), change(0, 8, 3)])?;
+        assert!(rt; !state.equal(&fewer_rows));
+        let other_amount = made(
+            rt.alloc(),
+            &[insert(1, [9, 1]), insert(0, [6, 3]), change(0, 8, 4)],
+        )?;
+        assert!(rt; !state.equal(&other_amount));
         Ok(())
     }
 }
