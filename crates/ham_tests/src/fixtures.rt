@@ -1,5 +1,8 @@
 //! What the runs share: the bank, and the words of a replay.
 
+ghost use Rattle.std.specs.Prelude.{◌≡◌, [], ◌∷◌, map, Some, IfOk, codes};
+ghost use Rattle.ham_cli.specs.Runs as runs;
+
 use ham_bytes::{MemShelf, MemSink, Words};
 use ham_cli::{Exit, run};
 use std::alloc::Global;
@@ -10,7 +13,9 @@ pub const BANK: &[u8] =
     b"hamsaz object 1\ncounter balance plain\ninvariant low balance 0\nmethod deposit\nparam a amount\neffect add balance a\nmethod withdraw\nparam a amount\neffect subtract balance a\nend\n";
 
 /// A shelf that holds an object named `bank` and a schedule named `plan`.
-pub fn shelf_of(alloc: Global, object: &[u8], schedule: &[u8]) -> Result<MemShelf, Fail> {
+pub fn shelf_of(alloc: Global, object: &[u8], schedule: &[u8]) -> Result<MemShelf, Fail>
+    ensures { IfOk result (λ shelf. shelf ≡ record { files = record { name = codes "bank"; bytes = object.now } ∷ record { name = codes "plan"; bytes = schedule.now } ∷ []; calls = 0; failing = []; faults = 0 }) }
+{
     let mut shelf = MemShelf::new(alloc);
     shelf.add(b"bank", object)?;
     shelf.add(b"plan", schedule)?;
@@ -18,7 +23,9 @@ pub fn shelf_of(alloc: Global, object: &[u8], schedule: &[u8]) -> Result<MemShel
 }
 
 /// The words of a command.
-pub fn words_of(alloc: Global, all: &[&[u8]]) -> Result<Words, Fail> {
+pub fn words_of(alloc: Global, all: &[&[u8]]) -> Result<Words, Fail>
+    ensures { IfOk result (λ words. words ≡ map (λ w. w.now) all.now) }
+{
     let mut words = Words::new(alloc);
     for word in all {
         words.push(word)?;
@@ -32,7 +39,9 @@ pub fn replay_of(
     object: &[u8],
     schedule: &[u8],
     room: usize,
-) -> Result<(Exit, MemSink), Fail> {
+) -> Result<(Exit, MemSink), Fail>
+    ensures { IfOk result (λ r. runs.Ends (codes "replay" ∷ codes "bank" ∷ codes "plan" ∷ []) (Some (record { name = codes "bank"; bytes = object.now } ∷ record { name = codes "plan"; bytes = schedule.now } ∷ [])) (Some []) (Some r.1.taken) r.0) }
+{
     let words = words_of(alloc, &[b"replay", b"bank", b"plan"])?;
     let mut shelf = shelf_of(alloc, object, schedule)?;
     let mut sink = MemSink::new(alloc, room, 16)?;

@@ -3,8 +3,7 @@
 
 #[cfg(test)]
 mod faults;
-#[cfg(test)]
-mod fixtures;
+pub mod fixtures;
 #[cfg(test)]
 mod limits;
 #[cfg(test)]
