@@ -1,4 +1,4 @@
-//! Runs of the top call over shelves and sinks in memory. It has nothing but tests.
+//! Tests that cross crates, and the runs over shelves and sinks in memory that they share.
 #![tactic(auto)]
 
 #[cfg(test)]
@@ -6,6 +6,8 @@ mod faults;
 pub mod fixtures;
 #[cfg(test)]
 mod limits;
+#[cfg(test)]
+mod meanings;
 #[cfg(test)]
 mod replays;
 #[cfg(test)]
