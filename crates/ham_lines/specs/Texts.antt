@@ -1,6 +1,6 @@
--- The texts of answers, without the line's end.
-use Rattle.std.specs.Prelude.{ℕ, List, ◌++◌, codes}
-use Rattle.std.specs.List.{flat_map}
+-- The texts of answers, without the last line's end.
+use Rattle.std.specs.Prelude.{ℕ, List, ◌∷◌, ◌++◌, length, codes}
+use Rattle.std.specs.List.{flat_map, join_by}
 use Rattle.std.specs.Fmt.{decimal, signed_decimal}
 use Rattle.ham_syntax.specs.declared.act.Place.{Place}
 use Rattle.ham_meaning.specs.declared.outcome.Outcome.{Outcome}
@@ -27,8 +27,17 @@ abbrev pub issued_text : Issued → List Place → List ℕ
 issued_text (Applied place) logged = codes "applied" ++ logged_text logged
 issued_text (Impermissible u) logged = impermissible_text u
 
+-- the line of a row, after the end of the line before it: its ids, parted by one space
+abbrev pub row_line : List ℕ → List ℕ
+row_line row = 10 ∷ join_by decimal (codes " ") row
+
+-- how many rows there are, and then each on a line of its own
+abbrev pub rows_text : List (List ℕ) → List ℕ
+rows_text rows = (codes "rows " ++ decimal (length rows)) ++ flat_map row_line rows
+
 abbrev pub answer_text : Answer → List ℕ
 answer_text (answers.Replicas n) = codes "replicas " ++ decimal n
 answer_text (answers.Issued answer logged) = issued_text answer logged
 answer_text (answers.Value v) = codes "value " ++ signed_decimal v
+answer_text (answers.Rows rows) = rows_text rows
 answer_text answers.End = codes "end"

@@ -2,8 +2,10 @@
 
 use super::*;
 use ham_meaning::{Issued, Outcome};
+use ham_state::Row;
 use ham_syntax::{Items, NoMemory, Place};
 use std::alloc::Global;
+use std::process::Abort;
 use std::test::Fail;
 
 #[test]
@@ -33,6 +35,10 @@ fn forbidden(alloc: Global, outcome: Outcome) -> Answer {
     }
 }
 
+fn row(rt: &impl Abort, ids: &[u64]) -> Row {
+    Row::new(ids).expect(rt, "one to four ids")
+}
+
 #[test]
 fn each_answer_has_its_text(rt: HostRuntime) -> Result<(), Fail> {
     let logged = [
@@ -53,6 +59,11 @@ fn each_answer_has_its_text(rt: HostRuntime) -> Result<(), Fail> {
             "impermissible invariant 0",
         ),
         (Answer::Value(-30), "value -30"),
+        (Answer::Rows(Items::new(alloc)), "rows 0"),
+        (
+            Answer::Rows(Items::of(alloc, &[row(&rt, &[7]), row(&rt, &[10, 0, 5])])?),
+            "rows 2\n7\n10 0 5",
+        ),
         (Answer::End, "end"),
     ];
     for (answer, wanted) in &cases {

@@ -1,12 +1,13 @@
 //! Effects with an act's arguments put in.
 
-ghost use Rattle.std.specs.Prelude.{◌≡◌, ◌^◌, ◌≤◌, ◌<◌, ◌+ℤ◌, pos, nat_abs, take, map, length};
+ghost use Rattle.std.specs.Prelude.{◌≡◌, ◌^◌, ◌≤◌, ◌<◌, take, map, length};
+ghost use Rattle.std.specs.List.{AllByRecursion};
 ghost use Rattle.ham_state.specs.Steps.{IsWithin};
-ghost use Rattle.ham_state.specs.Touch as touch;
 ghost use Rattle.ham_meaning.specs.Meaning as meaning;
+ghost use Rattle.ham_meaning.specs.Inserts.{InsertsIds};
 
-use ham_state::Step;
-use ham_syntax::{Effect, Term};
+use ham_state::{Row, Step};
+use ham_syntax::{Effect, Term, Terms};
 
 /// The number that the term stands for. A parameter of a checked object that has no argument does not occur: it is 0.
 pub fn number(args: &[u64], term: Term) -> u64
@@ -29,12 +30,55 @@ pub fn key_of(args: &[u64], key: Option<Term>) -> u64
     }
 }
 
-/// What the effect does with these arguments.
-pub fn step_of(args: &[u64], effect: Effect) -> Step
-    ensures step { result ≡ meaning.step_of args.now effect }
-    ensures within { IsWithin (2 ^ 64) result }
+/// The term with the argument in place of a parameter.
+fn put_in(args: &[u64], term: Term) -> Term
+    ensures { result ≡ meaning.put_in args.now term }
 {
-    match effect {
+    match term {
+        Term::Param(_) | Term::Const(_) => Term::Const(number(args, term)),
+        Term::Any => Term::Any,
+    }
+}
+
+/// The pattern with the arguments in place of the parameters.
+pub fn pattern_of(args: &[u64], terms: &Terms) -> Terms
+    ensures { result ≡ map (meaning.put_in args.now) terms.now }
+{
+    let terms = terms.items();
+    let mut pattern = [Term::Any; 4];
+    for (i, term) in terms.iter().enumerate() {
+        pattern[i] = put_in(args, *term);
+    }
+    Terms::new(&pattern[..terms.len()]).unwrap()
+}
+
+/// The row that the terms stand for.
+fn row_of(args: &[u64], terms: &Terms) -> Row
+    requires { 0 < length terms.now }
+    ensures { result ≡ map (meaning.number args.now) terms.now }
+{
+    let terms = terms.items();
+    let mut ids = [0u64; 4];
+    for (i, term) in terms.iter().enumerate() {
+        ids[i] = number(args, *term);
+    }
+    Row::new(&ids[..terms.len()]).unwrap()
+}
+
+/// What the effect does with these arguments.
+fn step_of(args: &[u64], effect: &Effect) -> Step
+    requires { InsertsIds effect.now }
+    ensures { result ≡ meaning.step_of args.now effect.now }
+{
+    match *effect {
+        Effect::Insert { relation, terms } => Step::Insert {
+            relation,
+            row: row_of(args, &terms),
+        },
+        Effect::Delete { relation, terms } => Step::Delete {
+            relation,
+            pattern: pattern_of(args, &terms),
+        },
         Effect::Add {
             counter,
             key,
@@ -58,62 +102,11 @@ pub fn step_of(args: &[u64], effect: Effect) -> Step
 
 /// Writes the effects' steps over the front.
 pub fn fill(steps: &mut [Step], effects: &[Effect], args: &[u64])
-    requires { length effects.now ≤ length steps.old }
+    requires room { length effects.now ≤ length steps.old }
+    requires ids { AllByRecursion InsertsIds effects.now }
     ensures { take (length effects.now) steps.new ≡ map (meaning.step_of args.now) effects.now }
 {
     for (i, effect) in effects.iter().enumerate() {
-        steps[i] = step_of(args, *effect);
-    }
-}
-
-fn gain(step: Step, counter: u8, key: u64) -> i128
-    requires { IsWithin (2 ^ 64) step }
-    ensures gain { result ≡ touch.gain step counter key }
-    ensures small { nat_abs result ≤ 2 ^ 64 }
-{
-    match step {
-        Step::Change {
-            counter: of,
-            key: at,
-            by,
-        } => if of == counter && at == key { by } else { 0 },
-        Step::Insert { .. } => 0,
-        Step::Delete { .. } => 0,
-    }
-}
-
-/// What the effects together add to the counter at the key.
-pub fn gains(effects: &[Effect], args: &[u64], counter: u8, key: u64) -> i128
-    requires { length effects.now ≤ 8 }
-    ensures sum { result ≡ touch.gains (map (meaning.step_of args.now) effects.now) counter key }
-    ensures small { nat_abs result ≤ 2 ^ 67 }
-{
-    let mut sum = 0;
-    for effect in effects {
-        sum += gain(step_of(args, *effect), counter, key);
-    }
-    sum
-}
-
-#[cfg(test)]
-mod tests {
-    use super::*;
-
-    #[test]
-    fn effects_on_one_key_add_up(rt: HostRuntime) {
-        let at = |key: Term, amount: u64| Effect::Add {
-            counter: 2,
-            key: Some(key),
-            amount: Term::Const(amount),
-        };
-        let taken = Effect::Subtract {
-            counter: 2,
-            key: Some(Term::Param(0)),
-            amount: Term::Param(1),
-        };
-        let effects = [at(Term::Param(0), 5), at(Term::Const(9), 100), taken];
-        assert_eq!(rt; gains(&effects, &[7, 30], 2, 7), -25);
-        assert_eq!(rt; gains(&effects, &[7, 30], 2, 9), 100);
-        assert_eq!(rt; gains(&effects, &[7, 30], 1, 7), 0);
+        steps[i] = step_of(args, effect);
     }
 }

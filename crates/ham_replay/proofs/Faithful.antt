@@ -10,7 +10,7 @@ use Rattle.ham_world.specs.declared.event.StepRefusal.{StepRefusal}
 use Rattle.ham_world.specs.Runs.{Run, IsRun, refusal_of, note_of, noted}
 use Rattle.ham_world.specs.Headline.{IsFaithful}
 use Rattle.ham_replay.specs.declared.line.Line.{Line}
-use Rattle.ham_replay.specs.declared.line.Line.TheVariants.{Replicas, Act, Show}
+use Rattle.ham_replay.specs.declared.line.Line.TheVariants.{Replicas, Act, Show, Rows}
 use Rattle.ham_replay.specs.Lines.{line_of}
 use Rattle.ham_replay.specs.Replays.{Turn, Refuses, Answers, turn_at, turn_of, event_turn, begun, is_replicas, played_from, played_lines, played, then_played, refused_at, answer_line}
 use Rattle.ham_replay.specs.declared.end.LineRefusal.TheVariants.{NotYet}
@@ -33,7 +33,8 @@ after_event go o r new e a (Some why) is turned h = absurd cc
 after_line : GoesOn → (o : Schema) (r new : Run) (a : Answer) (found : Option Line) → turn_at r found ≡ Answers new a → IsRunOf o r → IsRunOf o new
 after_line go o r new a None turned h = absurd cc
 after_line go o r new a (Some Replicas) turned h = absurd cc
-after_line go o r new a (Some (Show c)) turned h = subst (IsRunOf o) (let same : r ≡ new = cc in same) h
+after_line go o r new a (Some (Show c key)) turned h = subst (IsRunOf o) (let same : r ≡ new = cc in same) h
+after_line go o r new a (Some (Rows q)) turned h = subst (IsRunOf o) (let same : r ≡ new = cc in same) h
 after_line go o r new a (Some (Act e)) turned h = after_event go o r new e a (refusal_of r e) refl turned h
 
 after_turn : GoesOn → (o : Schema) (r new : Run) (l : List ℕ) (a : Answer) → turn_of r l ≡ Answers new a → IsRunOf o r → IsRunOf o new

@@ -3,10 +3,10 @@ use Rattle.std.specs.Prelude.{ℕ, Bool, true, false, ◌&&◌, nat_le, List, []
 use Rattle.std.specs.Str.{bytes_eq}
 use Rattle.ham_syntax.specs.declared.object.Counter.{Counter}
 use Rattle.ham_syntax.specs.Names.{is_name}
-use Rattle.ham_syntax.specs.Objects.{Schema, counter_named, method_named}
+use Rattle.ham_syntax.specs.Objects.{Schema, relation_named, counter_named, method_named}
 use Rattle.ham_world.specs.declared.event.Event.TheVariants as events
 use Rattle.ham_replay.specs.declared.line.Line.{Line}
-use Rattle.ham_replay.specs.declared.line.Line.TheVariants.{Replicas, Act, Show}
+use Rattle.ham_replay.specs.declared.line.Line.TheVariants.{Replicas, Act, Show, Rows}
 use Rattle.ham_text.specs.Cuts.{words_of}
 use Rattle.ham_text.specs.Numbers.{number_of}
 
@@ -36,16 +36,32 @@ issue_of o method arguments = do
   args ← numbers_of arguments
   Some (Act (events.Issue 1 (record { method = m; args = args })))
 
-abbrev pub is_plain : Option Counter → Bool
-is_plain None = false
-is_plain (Some c) = if c.keyed then false else true
+-- the key of a plain counter is 0, with no word for it, and that of a keyed one is a number
+abbrev pub shown_key : Bool → List (List ℕ) → Option ℕ
+shown_key false [] = Some 0
+shown_key false (w ∷ ws) = None
+shown_key true [] = None
+shown_key true (w ∷ []) = number_of w
+shown_key true (w ∷ v ∷ ws) = None
 
--- a plain counter that the object has
-unfoldable pub show_of : Schema → List ℕ → Option Line
-show_of o counter = do
+abbrev pub key_shown : Option Counter → List (List ℕ) → Option ℕ
+key_shown None words = None
+key_shown (Some c) words = shown_key c.keyed words
+
+-- a counter that the object has, and its key
+unfoldable pub show_of : Schema → List ℕ → List (List ℕ) → Option Line
+show_of o counter words = do
   name ← name_of counter
   c ← counter_named o name
-  if is_plain (slice_get o.counters c) then Some (Show c) else None
+  key ← key_shown (slice_get o.counters c) words
+  Some (Show c key)
+
+-- a relation that the object has
+unfoldable pub rows_of : Schema → List ℕ → Option Line
+rows_of o relation = do
+  name ← name_of relation
+  r ← relation_named o name
+  Some (Rows r)
 
 abbrev pub is_empty_list : List (List ℕ) → Bool
 is_empty_list [] = true
@@ -55,7 +71,8 @@ is_empty_list (w ∷ ws) = false
 unfoldable pub line_at_replica : Schema → List ℕ → List ℕ → List (List ℕ) → Option Line
 line_at_replica o verb name rest =
     if bytes_eq verb (codes "issue") then issue_of o name rest
-    else if bytes_eq verb (codes "show") && is_empty_list rest then show_of o name
+    else if bytes_eq verb (codes "show") then show_of o name rest
+    else if bytes_eq verb (codes "rows") && is_empty_list rest then rows_of o name
     else None
 
 unfoldable pub line_of_words : Schema → List (List ℕ) → Option Line
@@ -64,6 +81,7 @@ line_of_words o (verb ∷ []) = None
 line_of_words o (verb ∷ count ∷ []) = if bytes_eq verb (codes "replicas") && bytes_eq count (codes "1") then Some Replicas else None
 line_of_words o (verb ∷ replica ∷ name ∷ rest) = if bytes_eq replica (codes "1") then line_at_replica o verb name rest else None
 
--- what a line asks: `replicas 1`, `issue 1 METHOD A1 ..` with numbers, or `show 1 COUNTER`
+-- what a line asks: `replicas 1`, `issue 1 METHOD A1 ..` with numbers, `show 1 COUNTER`, or `show 1 COUNTER KEY` of a
+-- keyed counter, or `rows 1 RELATION`
 abbrev pub line_of : Schema → List ℕ → Option Line
 line_of o line = line_of_words o (words_of line)

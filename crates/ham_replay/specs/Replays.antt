@@ -3,7 +3,7 @@ use Rattle.std.specs.Prelude.{ℕ, ◌+◌, Bool, true, false, if◌then◌else�
 use Rattle.std.specs.Fmt.{decimal}
 use Rattle.ham_syntax.specs.declared.act.Place.{Place}
 use Rattle.ham_syntax.specs.Objects.{Schema}
-use Rattle.ham_state.specs.Content.{value}
+use Rattle.ham_state.specs.Content.{value, rows}
 use Rattle.ham_meaning.specs.declared.issued.Issued.{Issued}
 use Rattle.ham_meaning.specs.declared.issued.Issued.TheVariants.{Applied, Impermissible}
 use Rattle.ham_lines.specs.declared.answer.Answer.{Answer}
@@ -18,7 +18,7 @@ use Rattle.ham_world.specs.declared.event.StepRefusal.TheVariants as step
 use Rattle.ham_world.specs.Runs.{Run, state_of, refusal_of, note_of, noted}
 use Rattle.ham_text.specs.Cuts.{lines_of}
 use Rattle.ham_replay.specs.declared.line.Line.{Line}
-use Rattle.ham_replay.specs.declared.line.Line.TheVariants.{Replicas, Act, Show}
+use Rattle.ham_replay.specs.declared.line.Line.TheVariants.{Replicas, Act, Show, Rows}
 use Rattle.ham_replay.specs.declared.end.LineRefusal.{LineRefusal}
 use Rattle.ham_replay.specs.declared.end.LineRefusal.TheVariants.{NotYet, BadArguments, LaneFull}
 use Rattle.ham_replay.specs.declared.end.Refusal.{Refusal}
@@ -59,7 +59,8 @@ event_turn r e None = Answers (noted r (note_of r e)) (answer_of_note (note_of r
 abbrev pub turn_at : Run → Option Line → Turn
 turn_at r None = Refuses NotYet
 turn_at r (Some Replicas) = Refuses NotYet
-turn_at r (Some (Show counter)) = Answers r (answers.Value (value (state_of r.object r.notes) counter 0))
+turn_at r (Some (Show counter key)) = Answers r (answers.Value (value (state_of r.object r.notes) counter key))
+turn_at r (Some (Rows relation)) = Answers r (answers.Rows (rows (state_of r.object r.notes) relation))
 turn_at r (Some (Act e)) = event_turn r e (refusal_of r e)
 
 -- a line after the first
@@ -76,7 +77,7 @@ reason_text LaneFull = codes "lane full"
 abbrev pub refusal_text : Refusal → List ℕ
 refusal_text r = codes "refused line " ++ (decimal r.line ++ (codes ": " ++ (reason_text r.why ++ 10 ∷ [])))
 
--- an answer's line
+-- an answer's lines
 abbrev pub answer_line : Answer → List ℕ
 answer_line a = answer_text a ++ 10 ∷ []
 
@@ -111,7 +112,8 @@ abbrev pub is_replicas : Option Line → Bool
 is_replicas None = false
 is_replicas (Some Replicas) = true
 is_replicas (Some (Act e)) = false
-is_replicas (Some (Show c)) = false
+is_replicas (Some (Show c key)) = false
+is_replicas (Some (Rows r)) = false
 
 -- the first line makes the world, in which the others are played
 unfoldable pub played_lines : Schema → List (List ℕ) → Played

@@ -15,8 +15,10 @@ pub enum Line {
     Replicas,
     /// `issue 1 METHOD A1 ..`
     Act(Event),
-    /// `show 1 COUNTER`, of a plain counter.
-    Show { counter: u8 },
+    /// `show 1 COUNTER`, of a plain counter, or `show 1 COUNTER KEY`, of a keyed one. The key of a plain counter is 0.
+    Show { counter: u8, key: u64 },
+    /// `rows 1 RELATION`
+    Rows { relation: u8 },
 }
 
 /// What a line asks; none where it has no shape that is built, with names of the object.
@@ -56,8 +58,10 @@ fn line_at_replica(object: &Object, verb: &[u8], name: &[u8], rest: &[Word]) -> 
 {
     if verb == b"issue".as_slice() {
         issue(object, name, rest)
-    } else if verb == b"show".as_slice() && rest.is_empty() {
-        show(object, name)
+    } else if verb == b"show".as_slice() {
+        show(object, name, rest)
+    } else if verb == b"rows".as_slice() && rest.is_empty() {
+        rows(object, name)
     } else {
         None
     }
@@ -74,15 +78,36 @@ fn issue(object: &Object, method: &[u8], arguments: &[Word]) -> Option<Line>
 }
 
 #[tactic(auto, unfolding(crate::specs::Lines::show_of))]
-fn show(object: &Object, counter: &[u8]) -> Option<Line>
-    ensures { result ≡ lines.show_of object.now counter.now }
+fn show(object: &Object, counter: &[u8], key: &[Word]) -> Option<Line>
+    ensures { result ≡ lines.show_of object.now counter.now key.now }
 {
     let counter = object.counter_named(&Name::new(counter)?)?;
-    if object.counters()[counter as usize].keyed {
-        None
+    let key = shown_key(object.counters()[counter as usize].keyed, key)?;
+    Some(Line::Show { counter, key })
+}
+
+/// The key that the words give: one number for a keyed counter, and none for a plain one, whose one key is 0.
+fn shown_key(keyed: bool, words: &[Word]) -> Option<u64>
+    ensures { result ≡ lines.shown_key keyed words.now }
+{
+    if keyed {
+        match words {
+            [key] => number(key.items()),
+            _ => None,
+        }
+    } else if words.is_empty() {
+        Some(0)
     } else {
-        Some(Line::Show { counter })
+        None
     }
+}
+
+#[tactic(auto, unfolding(crate::specs::Lines::rows_of))]
+fn rows(object: &Object, relation: &[u8]) -> Option<Line>
+    ensures { result ≡ lines.rows_of object.now relation.now }
+{
+    let relation = object.relation_named(&Name::new(relation)?)?;
+    Some(Line::Rows { relation })
 }
 
 /// The numbers that the words spell; none where one spells no number, or there are more than six.

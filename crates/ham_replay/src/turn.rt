@@ -27,9 +27,14 @@ pub fn turn(alloc: Global, world: &mut World<'_>, line: &[u8]) -> Result<LineEnd
     match read_line(alloc, world.object(), line)? {
         None => Ok(LineEnd::Refused(LineRefusal::NotYet)),
         Some(Line::Replicas) => Ok(LineEnd::Refused(LineRefusal::NotYet)),
-        Some(Line::Show { counter }) => Ok(LineEnd::Answered(Answer::Value(world.value(
-            counter, 0,
-        )))),
+        Some(Line::Show { counter, key }) => {
+            let value = world.value(counter, key);
+            Ok(LineEnd::Answered(Answer::Value(value)))
+        }
+        Some(Line::Rows { relation }) => {
+            let rows = world.rows(alloc, relation)?;
+            Ok(LineEnd::Answered(Answer::Rows(rows)))
+        }
         Some(Line::Act(event)) => take(alloc, world, event),
     }
 }

@@ -1,13 +1,13 @@
 //! The world: one replica, which decides every call on lane 0.
 
-ghost use Rattle.std.specs.Prelude.{◌≡◌, ◌<◌, ◌∷◌, ◌++◌, [], None, vec_len, vec_capacity, IfOk};
-ghost use Rattle.ham_state.specs.Content.{value};
+ghost use Rattle.std.specs.Prelude.{◌≡◌, ◌<◌, ◌∷◌, ◌++◌, [], None, map, vec_len, vec_capacity, IfOk};
+ghost use Rattle.ham_state.specs.Content.{value, rows};
 ghost use Rattle.ham_world.specs.Runs as runs;
 
 use crate::event::{Event, IssueRefusal, Note, StepRefusal};
 use ham_meaning::{Issued, Outcome, apply, permissible};
-use ham_state::State;
-use ham_syntax::{Act, NoMemory, Object, Place};
+use ham_state::{Fact, Row, State};
+use ham_syntax::{Act, Items, NoMemory, Object, Place};
 use std::alloc::Global;
 use std::marker::Model;
 
@@ -124,6 +124,23 @@ impl<'a> World<'a> {
     {
         self.state.value(counter, key)
     }
+
+    /// The rows of a relation now, ascending column by column.
+    pub fn rows(&self, alloc: Global, relation: u8) -> Result<Items<Row>, NoMemory>
+        ensures { IfOk result (λ found. found ≡ rows (runs.state_of self.now.object self.now.notes) relation) }
+    {
+        copy_rows(alloc, self.state.rows(relation))
+    }
+}
+
+fn copy_rows(alloc: Global, facts: &[Fact]) -> Result<Items<Row>, NoMemory>
+    ensures { IfOk result (λ copies. copies ≡ map (λ f. f.row) facts.now) }
+{
+    let mut copies = Items::new(alloc);
+    for fact in facts {
+        copies.push(fact.row)?;
+    }
+    Ok(copies)
 }
 
 /// The note of an act that was applied as the call of this number.

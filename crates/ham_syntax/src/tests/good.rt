@@ -1,0 +1,149 @@
+//! Objects with no fault.
+
+use super::{name, raw};
+use crate::{
+    Act, Args, Cols, Counter, Effect, Guard, Invariant, Kind, MAX_AMOUNT, Object, Param, Relation,
+    Term, Terms,
+};
+use std::test::Fail;
+
+const BANK: &str =
+    "counter balance plain; low balance 0; method deposit; amount a; effect add balance a; method withdraw; amount a; effect subtract balance a";
+
+#[test]
+fn the_bank_is_taken_as_it_is_meant(rt: HostRuntime) -> Result<(), Fail> {
+    let bank = Object::check(rt.alloc(), &raw(&rt, rt.alloc(), BANK)?)?;
+    let balance = Counter {
+        name: name(&rt, "balance"),
+        keyed: false,
+    };
+    assert_eq!(rt; bank.counters(), [balance].as_slice());
+    let at_least_0 = Invariant::Low {
+        counter: 0,
+        limit: 0,
+    };
+    assert_eq!(rt; bank.invariants(), [at_least_0].as_slice());
+    let add = Effect::Add {
+        counter: 0,
+        key: None,
+        amount: Term::Param(0),
+    };
+    let subtract = Effect::Subtract {
+        counter: 0,
+        key: None,
+        amount: Term::Param(0),
+    };
+    let a = Param {
+        name: name(&rt, "a"),
+        kind: Kind::Amount,
+    };
+    let wanted = [("deposit", add), ("withdraw", subtract)];
+    assert_eq!(rt; bank.methods().len(), wanted.len());
+    for (method, (text, effect)) in bank.methods().iter().zip(wanted) {
+        assert_eq!(rt; method.name, name(&rt, text));
+        assert_eq!(rt; method.params.items(), [a].as_slice());
+        assert!(rt; method.guards.items().is_empty());
+        assert_eq!(rt; method.effects.items(), [effect].as_slice());
+    }
+    Ok(())
+}
+
+#[test]
+fn the_bank_knows_its_names_and_what_fits(rt: HostRuntime) -> Result<(), Fail> {
+    let bank = Object::check(rt.alloc(), &raw(&rt, rt.alloc(), BANK)?)?;
+    assert_eq!(rt; bank.counter_named(&name(&rt, "balance")), Some(0));
+    assert_eq!(rt; bank.counter_named(&name(&rt, "deposit")), None);
+    assert_eq!(rt; bank.method_named(&name(&rt, "withdraw")), Some(1));
+    assert_eq!(rt; bank.method_named(&name(&rt, "balance")), None);
+    let one = Args::new(&[MAX_AMOUNT]).expect(&rt, "one");
+    let too_large = Args::new(&[MAX_AMOUNT + 1]).expect(&rt, "one");
+    let two = Args::new(&[1, 2]).expect(&rt, "two");
+    let none = Args::new(&[]).expect(&rt, "none");
+    let cases = [
+        (0, one, true),
+        (1, one, true),
+        (2, one, false),
+        (1, too_large, false),
+        (0, two, false),
+        (0, none, false),
+    ];
+    for (method, args, fits) in cases {
+        assert_eq!(rt; bank.args_fit(&Act { method, args }), fits);
+    }
+    Ok(())
+}
+
+const SHOP: &str =
+    "counter orders plain; counter stock keyed; high stock 0; low stock -5; method order; amount count; id item; guard atleast stock item 4294967295; guard atmost orders count; effect subtract stock 18446744073709551615 count";
+
+#[test]
+fn names_become_the_numbers_of_counters(rt: HostRuntime) -> Result<(), Fail> {
+    let shop = Object::check(rt.alloc(), &raw(&rt, rt.alloc(), SHOP)?)?;
+    let high = Invariant::High {
+        counter: 1,
+        limit: 0,
+    };
+    let low = Invariant::Low {
+        counter: 1,
+        limit: -5,
+    };
+    assert_eq!(rt; shop.invariants().get(0), Some(&high));
+    assert_eq!(rt; shop.invariants().get(1), Some(&low));
+    let at_least = Guard::AtLeast {
+        counter: 1,
+        key: Some(Term::Param(1)),
+        amount: Term::Const(MAX_AMOUNT),
+    };
+    assert_eq!(rt; first_guard(&shop), Some(at_least));
+    let subtract = Effect::Subtract {
+        counter: 1,
+        key: Some(Term::Const(u64::MAX)),
+        amount: Term::Param(0),
+    };
+    assert_eq!(rt; first_effect(&shop), Some(subtract));
+    Ok(())
+}
+
+const COURSES: &str =
+    "relation student 1; relation enrolled 2; reference enrolled student 2; unique enrolled 2 1; method enroll; id c; id s; guard absent enrolled _ s; effect delete enrolled 7 _; effect insert enrolled c s";
+
+fn first_guard(object: &Object) -> Option<Guard> {
+    object.methods().first()?.guards.items().first().copied()
+}
+
+fn first_effect(object: &Object) -> Option<Effect> {
+    object.methods().first()?.effects.items().first().copied()
+}
+
+#[test]
+fn names_become_the_numbers_of_relations(rt: HostRuntime) -> Result<(), Fail> {
+    let first = Object::check(rt.alloc(), &raw(&rt, rt.alloc(), COURSES)?)?;
+    let courses = first.copy(rt.alloc())?;
+    let enrolled = name(&rt, "enrolled");
+    assert_eq!(rt; courses.relation_named(&enrolled), Some(1));
+    assert_eq!(rt; courses.relation_named(&name(&rt, "enroll")), None);
+    let widths: Vec<u8> = courses
+        .relations()
+        .iter()
+        .map(|relation| relation.columns)
+        .collect(rt.alloc())?;
+    assert_eq!(rt; widths.as_slice(), [1, 2].as_slice());
+    Ok(())
+}
+
+#[test]
+fn references_and_uniqueness_keep_their_columns(rt: HostRuntime) -> Result<(), Fail> {
+    let courses = Object::check(rt.alloc(), &raw(&rt, rt.alloc(), COURSES)?)?;
+    let reference = Invariant::Reference {
+        from: 1,
+        columns: Cols::new(&[2]).expect(&rt, "one"),
+        to: 0,
+    };
+    let unique = Invariant::Unique {
+        relation: 1,
+        columns: Cols::new(&[2, 1]).expect(&rt, "two"),
+    };
+    assert_eq!(rt; courses.invariants().get(0), Some(&reference));
+    assert_eq!(rt; courses.invariants().get(1), Some(&unique));
+    Ok(())
+}
