@@ -1,8 +1,16 @@
 pub mod Parts
 pub mod Lines
 pub mod Choices
-pub mod Spelling
+pub mod Spelled
 pub mod Wording
 pub mod Spaces
+pub mod Adds
+pub mod Runs
 pub mod Forms
+pub mod Documents
+pub mod Arrays
 pub mod Files
+pub mod Printed
+pub mod Entries
+pub mod Back
+pub mod Proper

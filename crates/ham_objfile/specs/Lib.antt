@@ -1,4 +1,13 @@
 pub mod Plain
-pub mod Accepted
+pub mod PlainFiles
+pub mod Toml
+pub mod Texts
+pub mod Written
+pub mod Writable
+pub mod FaultTexts
+pub mod Outcomes
+pub mod Words
 pub mod Reading
 pub mod Drafts
+pub mod Objects
+pub mod Printing

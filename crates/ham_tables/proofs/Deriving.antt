@@ -1,0 +1,131 @@
+-- Derived plans are sound.
+use Rattle.std.proofs.Common.{◌≡◌, ◌⊎◌, ℕ, ◌<◌, ◌≤◌, Bool, true, false, not, ◌&&◌, ◌||◌, if◌then◌else◌, leb, ltb, eqb, List, length, inl, inr, refl, sym, ap, subst, ◌∙◌, true≢false, arith, lt-ltb}
+use Rattle.std.specs.Prelude.{slice_get, IsTrue}
+use Rattle.std.proofs.lemmas.Bool.{leb-true, leb-false, ltb-true, ltb-false, eqb-true}
+use Rattle.ham_syntax.specs.declared.act.Act.{Act}
+use Rattle.ham_syntax.specs.Objects.{Schema}
+use Rattle.ham_syntax.specs.Checked.{IsChecked}
+use Rattle.ham_meaning.specs.Relations.{IsActOf, StateCommute, InvariantSufficient, PermissibleRight, PermissibleLeft}
+use Rattle.ham_meaning.specs.OfObjects.{meaning}
+use Rattle.ham_rules.specs.declared.claim.Claim.{Claim}
+use Rattle.ham_rules.specs.declared.claim.Claim.TheVariants.{Sc, Is, Pr, Pl}
+use Rattle.ham_analyse.specs.Analysis.{is_derivable}
+use Rattle.ham_analyse.proofs.Derived.{computed-holds}
+use Rattle.ham_plan.specs.Executions.{IsSound}
+use Rattle.ham_plan.specs.Plans.{Plan, IsPlan, among, conflicts, depends_on}
+use Rattle.ham_plan.specs.Constrained.{constraints_of}
+use Rattle.ham_plan.specs.Grids.{cell}
+use Rattle.ham_plan.proofs.Missing.{IsActOf-within}
+use Rattle.ham_tables.specs.DerivedPlans.{stays, concur, conflict_of, depends_of, IsDerivedPlan}
+
+both : (a b : Bool) → (a && b) ≡ true → (a ≡ true) × (b ≡ true)
+both true b e = (refl, e)
+both false b e = absurd (true≢false (sym e))
+
+either : (a b : Bool) → (a || b) ≡ true → (a ≡ true) ⊎ (b ≡ true)
+either true b e = inl refl
+either false b e = inr e
+
+not-false : (b : Bool) → not b ≡ false → b ≡ true
+not-false true e = refl
+not-false false e = absurd (true≢false e)
+
+-- ---- conflict is symmetric
+least-first : (o : Schema) (m n : ℕ) → m ≤ n → conflict_of o m n ≡ not (concur o m n)
+unfolding conflict_of
+least-first o m n h = rw (le-leb m n h) refl
+  where
+    le-leb : (a b : ℕ) → a ≤ b → leb a b ≡ true
+    le-leb a b h = by (leb a b) refl
+      where
+        by : (t : Bool) → leb a b ≡ t → t ≡ true
+        by true e = refl
+        by false e = let more = leb-false a b e in absurd (omega arith)
+
+least-last : (o : Schema) (m n : ℕ) → n < m → conflict_of o m n ≡ not (concur o n m)
+unfolding conflict_of
+least-last o m n h = rw (lt-leb m n h) refl
+  where
+    lt-leb : (a b : ℕ) → b < a → leb a b ≡ false
+    lt-leb a b h = by (leb a b) refl
+      where
+        by : (t : Bool) → leb a b ≡ t → t ≡ false
+        by false e = refl
+        by true e = let less = leb-true a b e in absurd (omega arith)
+
+pub conflict_symmetric : (o : Schema) (m n : ℕ) → conflict_of o m n ≡ conflict_of o n m
+conflict_symmetric o m n = by (ltb m n) (ltb n m) refl refl
+  where
+    by : (a b : Bool) → ltb m n ≡ a → ltb n m ≡ b → conflict_of o m n ≡ conflict_of o n m
+    by true b x y = let h = ltb-true m n x in least-first o m n (omega arith) ∙ sym (least-last o n m h)
+    by false true x y = let h = ltb-true n m y in least-last o m n h ∙ sym (least-first o n m (omega arith))
+    by false false x y =
+        let h = ltb-false m n x in
+        let k = ltb-false n m y in
+        let same : m ≡ n = omega arith in
+        rw same refl
+
+pub among_symmetric : (o : Schema) (methods : ℕ) (rows : List (List Bool)) → ((m n : ℕ) → m < methods → n < methods → cell rows m n ≡ conflict_of o m n) → (m n : ℕ) → among methods rows m n ≡ among methods rows n m
+among_symmetric o methods rows is m n = by (ltb m methods) (ltb n methods) refl refl
+  where
+    by : (a b : Bool) → ltb m methods ≡ a → ltb n methods ≡ b → ((a && b) && cell rows m n) ≡ ((b && a) && cell rows n m)
+    by true true x y = is m n (ltb-true m methods x) (ltb-true n methods y) ∙ (conflict_symmetric o m n ∙ sym (is n m (ltb-true n methods y) (ltb-true m methods x)))
+    by true false x y = refl
+    by false true x y = refl
+    by false false x y = refl
+
+pub among_is : (methods : ℕ) (rows : List (List Bool)) (m n : ℕ) → m < methods → n < methods → among methods rows m n ≡ cell rows m n
+among_is methods rows m n h k = rw (lt-ltb m methods h, lt-ltb n methods k) refl
+
+-- ---- what doesn't conflict concurs
+module _ (o : Schema) (checked : IsChecked o) where
+  stays-holds : (m n : ℕ) → stays o m n ≡ true → InvariantSufficient (meaning o) m ⊎ PermissibleRight (meaning o) m n
+  stays-holds m n e = by (either (is_derivable o (Is m)) (is_derivable o (Pr m n)) e)
+    where
+      by : (is_derivable o (Is m) ≡ true) ⊎ (is_derivable o (Pr m n) ≡ true) → InvariantSufficient (meaning o) m ⊎ PermissibleRight (meaning o) m n
+      by (inl is) = inl (computed-holds o (Is m) checked is)
+      by (inr is) = inr (computed-holds o (Pr m n) checked is)
+
+  concur-parts : (m n : ℕ) → concur o m n ≡ true → StateCommute (meaning o) m n × (InvariantSufficient (meaning o) m ⊎ PermissibleRight (meaning o) m n) × (InvariantSufficient (meaning o) n ⊎ PermissibleRight (meaning o) n m)
+  concur-parts m n e =
+      let first = both (is_derivable o (Sc m n)) (stays o m n && stays o n m) e in
+      let rest = both (stays o m n) (stays o n m) first.1 in
+      (computed-holds o (Sc m n) checked first.0, stays-holds m n rest.0, stays-holds n m rest.1)
+
+  pub concurs : (m n : ℕ) → conflict_of o m n ≡ false → StateCommute (meaning o) m n × (InvariantSufficient (meaning o) m ⊎ PermissibleRight (meaning o) m n)
+  concurs m n apart = by (leb m n) refl
+    where
+      by : (t : Bool) → leb m n ≡ t → StateCommute (meaning o) m n × (InvariantSufficient (meaning o) m ⊎ PermissibleRight (meaning o) m n)
+      by true e =
+          let parts = concur-parts m n (not-false (concur o m n) (sym (least-first o m n (leb-true m n e)) ∙ apart)) in
+          (parts.0, parts.1)
+      by false e =
+          let parts = concur-parts n m (not-false (concur o n m) (sym (least-last o m n (leb-false m n e)) ∙ apart)) in
+          (λ a b s of_m of_n well. sym (parts.0 b a s of_n of_m well), parts.2)
+
+  pub independent : (m n : ℕ) → depends_of o m n ≡ false → InvariantSufficient (meaning o) m ⊎ PermissibleLeft (meaning o) m n
+  unfolding depends_of
+  independent m n e = by (either (is_derivable o (Is m)) (is_derivable o (Pl m n)) (not-false _ e))
+    where
+      by : (is_derivable o (Is m) ≡ true) ⊎ (is_derivable o (Pl m n) ≡ true) → InvariantSufficient (meaning o) m ⊎ PermissibleLeft (meaning o) m n
+      by (inl is) = inl (computed-holds o (Is m) checked is)
+      by (inr is) = inr (computed-holds o (Pl m n) checked is)
+
+  pub derived_sound : (p : Plan) → IsDerivedPlan o p → IsSound (meaning o) (constraints_of p)
+  derived_sound p is = record {
+    symmetric = is.plan.symmetric;
+    commute = λ m n apart a b s of_m of_n well. (here m n (IsActOf-within o m a of_m) (IsActOf-within o n b of_n) apart).0 a b s of_m of_n well;
+    right = λ m n apart. right m n apart (ltb m (length o.methods)) (ltb n (length o.methods)) refl refl;
+    left = λ m n apart. left m n apart (ltb m (length o.methods)) (ltb n (length o.methods)) refl refl;
+  }
+    where
+      here : (m n : ℕ) → m < length o.methods → n < length o.methods → conflicts p m n ≡ false → StateCommute (meaning o) m n × (InvariantSufficient (meaning o) m ⊎ PermissibleRight (meaning o) m n)
+      here m n h k apart = concurs m n (sym (is.conflict m n h k) ∙ apart)
+      right : (m n : ℕ) → conflicts p m n ≡ false → (a b : Bool) → ltb m (length o.methods) ≡ a → ltb n (length o.methods) ≡ b → InvariantSufficient (meaning o) m ⊎ PermissibleRight (meaning o) m n
+      right m n apart true true x y = (here m n (ltb-true m _ x) (ltb-true n _ y) apart).1
+      right m n apart true false x y = inr (λ a b s of_m of_n well inv pa pb. let h = IsActOf-within o n b of_n in let k = ltb-false n _ y in absurd (omega arith))
+      right m n apart false t x y = inl (λ a s of_m well inv. let h = IsActOf-within o m a of_m in let k = ltb-false m _ x in absurd (omega arith))
+      left : (m n : ℕ) → depends_on p m n ≡ false → (a b : Bool) → ltb m (length o.methods) ≡ a → ltb n (length o.methods) ≡ b → InvariantSufficient (meaning o) m ⊎ PermissibleLeft (meaning o) m n
+      left m n apart true true x y = independent m n (sym (is.depends m n (ltb-true m _ x) (ltb-true n _ y)) ∙ apart)
+      left m n apart true false x y = inr (λ a b s of_m of_n well inv pb pa. let h = IsActOf-within o n b of_n in let k = ltb-false n _ y in absurd (omega arith))
+      left m n apart false t x y = inl (λ a s of_m well inv. let h = IsActOf-within o m a of_m in let k = ltb-false m _ x in absurd (omega arith))

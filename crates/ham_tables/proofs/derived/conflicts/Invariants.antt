@@ -1,0 +1,6 @@
+use Rattle.ham_tables.specs.DerivedPlans.{conflict_of}
+use Rattle.ham_tables.proofs.Filling.{AreFilled}
+use Rattle.ham_tables.proofs.derived.conflicts.Given as goal
+
+abbrev pub invariant-loop-m : goal.invariant-loop-m
+invariant-loop-m l = AreFilled (conflict_of l.object) l.methods l.m l.grid.at

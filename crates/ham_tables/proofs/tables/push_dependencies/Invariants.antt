@@ -1,0 +1,7 @@
+use Rattle.ham_derive.specs.Texts.{line_text}
+use Rattle.ham_tables.specs.TablesText.{depend_row}
+use Rattle.ham_tables.proofs.Written.{IsWritten}
+use Rattle.ham_tables.proofs.tables.push_dependencies.Given as goal
+
+abbrev pub invariant-loop-m : goal.invariant-loop-m
+invariant-loop-m l = IsWritten line_text (depend_row l.object l.plan) l.m l.initial.text l.text

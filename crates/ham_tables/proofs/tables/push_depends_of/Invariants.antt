@@ -1,0 +1,7 @@
+use Rattle.ham_derive.specs.Texts.{line_text}
+use Rattle.ham_tables.specs.TablesText.{depend_pair}
+use Rattle.ham_tables.proofs.Written.{IsWritten}
+use Rattle.ham_tables.proofs.tables.push_depends_of.Given as goal
+
+abbrev pub invariant-loop-n : goal.invariant-loop-n
+invariant-loop-n l = IsWritten line_text (depend_pair l.object l.plan l.m) l.n l.initial.text l.text

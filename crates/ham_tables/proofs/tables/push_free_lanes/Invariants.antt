@@ -1,0 +1,7 @@
+use Rattle.ham_derive.specs.Texts.{line_text}
+use Rattle.ham_tables.specs.TablesText.{own_lanes}
+use Rattle.ham_tables.proofs.Written.{IsWritten}
+use Rattle.ham_tables.proofs.tables.push_free_lanes.Given as goal
+
+abbrev pub invariant-loop-m : goal.invariant-loop-m
+invariant-loop-m l = IsWritten line_text (own_lanes l.object l.plan) l.m l.initial.text l.text

@@ -1,0 +1,7 @@
+use Rattle.ham_derive.specs.Texts.{line_text}
+use Rattle.ham_tables.specs.TablesText.{group_lane}
+use Rattle.ham_tables.proofs.Written.{IsEach}
+use Rattle.ham_tables.proofs.tables.push_group_lanes.Given as goal
+
+abbrev pub invariant-loop-group : goal.invariant-loop-group
+invariant-loop-group l = IsEach line_text group_lane 0 l.group l.initial.text l.text

@@ -1,0 +1,176 @@
+//! The tables of a plan.
+
+ghost use Rattle.std.specs.Prelude.{◌≡◌, ◌<◌, ◌≤◌, ◌∷◌, ◌++◌, [], length, map, codes, IfOk, OnOk};
+ghost use Rattle.std.specs.List.{flat_map, range_with_len};
+ghost use Rattle.std.specs.Fmt.{decimal};
+ghost use Rattle.ham_derive.specs.Texts.{line_text};
+ghost use Rattle.ham_plan.specs.Plans as plans;
+ghost use Rattle.ham_tables.specs.TablesText as tables_text;
+
+use crate::lines::{push_count, push_group_lane, push_name, push_number, push_own_lane, push_pair};
+use ham_plan::Plan;
+use ham_syntax::{Bytes, Items, NoMemory, Object};
+use std::alloc::Global;
+
+/// Row m of the conflicts: the methods not before m with which it conflicts.
+fn push_conflicts_of(text: &mut Bytes, object: &Object, plan: &Plan, m: u8) -> Result<(), NoMemory>
+    requires methods { plan.now.methods ≡ length object.now.methods }
+    requires exists { m < plan.now.methods }
+    ensures { OnOk result (text.new ≡ text.old ++ flat_map line_text (tables_text.conflict_row object.now plan.now m)) }
+{
+    for n in 0..plan.methods() {
+        if m <= n && plan.conflicts(m, n) {
+            push_pair(text, b"conflict", object, m, n)?;
+        }
+    }
+    Ok(())
+}
+
+fn push_conflicts(text: &mut Bytes, object: &Object, plan: &Plan) -> Result<(), NoMemory>
+    requires methods { plan.now.methods ≡ length object.now.methods }
+    ensures { OnOk result (text.new ≡ text.old ++ flat_map line_text (tables_text.conflict_lines object.now plan.now)) }
+{
+    for m in 0..plan.methods() {
+        push_conflicts_of(text, object, plan, m)?;
+    }
+    Ok(())
+}
+
+/// Row m of the dependencies: the methods on which it depends.
+fn push_depends_of(text: &mut Bytes, object: &Object, plan: &Plan, m: u8) -> Result<(), NoMemory>
+    requires methods { plan.now.methods ≡ length object.now.methods }
+    requires exists { m < plan.now.methods }
+    ensures { OnOk result (text.new ≡ text.old ++ flat_map line_text (tables_text.depend_row object.now plan.now m)) }
+{
+    for n in 0..plan.methods() {
+        if plan.depends(m, n) {
+            push_pair(text, b"depend", object, m, n)?;
+        }
+    }
+    Ok(())
+}
+
+fn push_dependencies(text: &mut Bytes, object: &Object, plan: &Plan) -> Result<(), NoMemory>
+    requires methods { plan.now.methods ≡ length object.now.methods }
+    ensures { OnOk result (text.new ≡ text.old ++ flat_map line_text (tables_text.depend_lines object.now plan.now)) }
+{
+    for m in 0..plan.methods() {
+        push_depends_of(text, object, plan, m)?;
+    }
+    Ok(())
+}
+
+/// The names of a group's methods, each after a space.
+fn push_names_in(
+    text: &mut Bytes,
+    object: &Object,
+    plan: &Plan,
+    group: u8,
+) -> Result<(), NoMemory>
+    requires methods { plan.now.methods ≡ length object.now.methods }
+    ensures { OnOk result (text.new ≡ text.old ++ flat_map (λ name. 32 ∷ name) (tables_text.names_in object.now plan.now group)) }
+{
+    for m in 0..plan.methods() {
+        if plan.group_of(m) == Some(group) {
+            push_name(text, object, m)?;
+        }
+    }
+    Ok(())
+}
+
+/// The line of a group.
+fn push_group(
+    alloc: Global,
+    text: &mut Bytes,
+    object: &Object,
+    plan: &Plan,
+    group: u8,
+) -> Result<(), NoMemory>
+    requires methods { plan.now.methods ≡ length object.now.methods }
+    ensures { OnOk result (text.new ≡ text.old ++ line_text (tables_text.group_line object.now plan.now group)) }
+{
+    text.extend(b"group ")?;
+    push_number(alloc, text, u16::from(group))?;
+    text.extend(b" leader ")?;
+    push_number(alloc, text, u16::from(plan.leader_of(group)))?;
+    push_names_in(text, object, plan, group)?;
+    text.push(b'\n')
+}
+
+fn push_groups(
+    alloc: Global,
+    text: &mut Bytes,
+    object: &Object,
+    plan: &Plan,
+) -> Result<(), NoMemory>
+    requires methods { plan.now.methods ≡ length object.now.methods }
+    ensures { OnOk result (text.new ≡ text.old ++ flat_map line_text (tables_text.group_lines object.now plan.now)) }
+{
+    for group in 0..plan.groups() {
+        push_group(alloc, text, object, plan, group)?;
+    }
+    Ok(())
+}
+
+fn push_group_lanes(alloc: Global, text: &mut Bytes, plan: &Plan) -> Result<(), NoMemory>
+    ensures { OnOk result (text.new ≡ text.old ++ flat_map line_text (tables_text.group_lanes plan.now)) }
+{
+    for group in 0..plan.groups() {
+        push_group_lane(alloc, text, group)?;
+    }
+    Ok(())
+}
+
+/// The lanes of method m, where it is free: one for each replica.
+fn push_own_lanes(
+    alloc: Global,
+    text: &mut Bytes,
+    object: &Object,
+    plan: &Plan,
+    m: u8,
+) -> Result<(), NoMemory>
+    requires methods { plan.now.methods ≡ length object.now.methods }
+    requires exists { m < plan.now.methods }
+    ensures { OnOk result (text.new ≡ text.old ++ flat_map line_text (tables_text.own_lanes object.now plan.now m)) }
+{
+    if plan.group_of(m).is_some() {
+        return Ok(());
+    }
+    for before in 0..plan.replicas() {
+        let replica = before + 1;
+        push_own_lane(alloc, text, object, plan.lane_of(m, replica), m, replica)?;
+    }
+    Ok(())
+}
+
+fn push_free_lanes(
+    alloc: Global,
+    text: &mut Bytes,
+    object: &Object,
+    plan: &Plan,
+) -> Result<(), NoMemory>
+    requires methods { plan.now.methods ≡ length object.now.methods }
+    ensures { OnOk result (text.new ≡ text.old ++ flat_map line_text (tables_text.free_lanes object.now plan.now)) }
+{
+    for m in 0..plan.methods() {
+        push_own_lanes(alloc, text, object, plan, m)?;
+    }
+    Ok(())
+}
+
+/// The tables of the plan: its conflicts, dependencies, groups and lanes, with the names of the object's methods.
+pub fn print_tables(alloc: Global, object: &Object, plan: &Plan) -> Result<Bytes, NoMemory>
+    requires { plan.now.methods ≡ length object.now.methods }
+    ensures { IfOk result (λ text. text ≡ tables_text.tables_text object.now plan.now) }
+{
+    let mut text = Items::new(alloc);
+    push_count(alloc, &mut text, b"methods", u16::from(plan.methods()))?;
+    push_count(alloc, &mut text, b"replicas", u16::from(plan.replicas()))?;
+    push_conflicts(&mut text, object, plan)?;
+    push_dependencies(&mut text, object, plan)?;
+    push_groups(alloc, &mut text, object, plan)?;
+    push_group_lanes(alloc, &mut text, plan)?;
+    push_free_lanes(alloc, &mut text, object, plan)?;
+    text.extend(b"end\n")?;
+    Ok(text)
+}
