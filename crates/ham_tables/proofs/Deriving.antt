@@ -121,10 +121,12 @@ module _ (o : Schema) (checked : IsChecked o) where
     where
       here : (m n : ℕ) → m < length o.methods → n < length o.methods → conflicts p m n ≡ false → StateCommute (meaning o) m n × (InvariantSufficient (meaning o) m ⊎ PermissibleRight (meaning o) m n)
       here m n h k apart = concurs m n (sym (is.conflict m n h k) ∙ apart)
+
       right : (m n : ℕ) → conflicts p m n ≡ false → (a b : Bool) → ltb m (length o.methods) ≡ a → ltb n (length o.methods) ≡ b → InvariantSufficient (meaning o) m ⊎ PermissibleRight (meaning o) m n
       right m n apart true true x y = (here m n (ltb-true m _ x) (ltb-true n _ y) apart).1
       right m n apart true false x y = inr (λ a b s of_m of_n well inv pa pb. let h = IsActOf-within o n b of_n in let k = ltb-false n _ y in absurd (omega arith))
       right m n apart false t x y = inl (λ a s of_m well inv. let h = IsActOf-within o m a of_m in let k = ltb-false m _ x in absurd (omega arith))
+
       left : (m n : ℕ) → depends_on p m n ≡ false → (a b : Bool) → ltb m (length o.methods) ≡ a → ltb n (length o.methods) ≡ b → InvariantSufficient (meaning o) m ⊎ PermissibleLeft (meaning o) m n
       left m n apart true true x y = independent m n (sym (is.depends m n (ltb-true m _ x) (ltb-true n _ y)) ∙ apart)
       left m n apart true false x y = inr (λ a b s of_m of_n well inv pb pa. let h = IsActOf-within o n b of_n in let k = ltb-false n _ y in absurd (omega arith))

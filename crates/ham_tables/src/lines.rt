@@ -26,7 +26,7 @@ pub(crate) fn push_name(text: &mut Bytes, object: &Object, m: u8) -> Result<(), 
 }
 
 /// Puts a number in decimal digits last.
-pub(crate) fn push_number(alloc: Global, text: &mut Bytes, number: u16) -> Result<(), NoMemory>
+fn push_number(alloc: Global, text: &mut Bytes, number: u16) -> Result<(), NoMemory>
     ensures { OnOk result (text.new ≡ text.old ++ decimal number) }
 {
     text.extend(format!(in alloc; "{number}")?.as_bytes())

@@ -1,16 +1,35 @@
 //! The tables of a plan.
 
 ghost use Rattle.std.specs.Prelude.{◌≡◌, ◌<◌, ◌≤◌, ◌∷◌, ◌++◌, [], length, map, codes, IfOk, OnOk};
-ghost use Rattle.std.specs.List.{flat_map, range_with_len};
+ghost use Rattle.std.specs.List.{flat_map, join_with_byte, range_with_len};
 ghost use Rattle.std.specs.Fmt.{decimal};
 ghost use Rattle.ham_derive.specs.Texts.{line_text};
 ghost use Rattle.ham_plan.specs.Plans as plans;
 ghost use Rattle.ham_tables.specs.TablesText as tables_text;
 
-use crate::lines::{push_count, push_group_lane, push_name, push_number, push_own_lane, push_pair};
+use crate::lines::{push_count, push_group_lane, push_name, push_own_lane, push_pair};
 use ham_plan::Plan;
 use ham_syntax::{Bytes, Items, NoMemory, Object};
 use std::alloc::Global;
+
+/// The line of a conflict, where there is one and m is not after n.
+fn push_conflict(
+    text: &mut Bytes,
+    object: &Object,
+    plan: &Plan,
+    m: u8,
+    n: u8,
+) -> Result<(), NoMemory>
+    requires methods { plan.now.methods ≡ length object.now.methods }
+    requires m_exists { m < plan.now.methods }
+    requires n_exists { n < plan.now.methods }
+    ensures { OnOk result (text.new ≡ text.old ++ flat_map line_text (tables_text.conflict_pair object.now plan.now m n)) }
+{
+    if m <= n && plan.conflicts(m, n) {
+        push_pair(text, b"conflict", object, m, n)?;
+    }
+    Ok(())
+}
 
 /// Row m of the conflicts: the methods not before m with which it conflicts.
 fn push_conflicts_of(text: &mut Bytes, object: &Object, plan: &Plan, m: u8) -> Result<(), NoMemory>
@@ -19,9 +38,7 @@ fn push_conflicts_of(text: &mut Bytes, object: &Object, plan: &Plan, m: u8) -> R
     ensures { OnOk result (text.new ≡ text.old ++ flat_map line_text (tables_text.conflict_row object.now plan.now m)) }
 {
     for n in 0..plan.methods() {
-        if m <= n && plan.conflicts(m, n) {
-            push_pair(text, b"conflict", object, m, n)?;
-        }
+        push_conflict(text, object, plan, m, n)?;
     }
     Ok(())
 }
@@ -36,6 +53,19 @@ fn push_conflicts(text: &mut Bytes, object: &Object, plan: &Plan) -> Result<(), 
     Ok(())
 }
 
+/// The line of a dependency, where there is one.
+fn push_depend(text: &mut Bytes, object: &Object, plan: &Plan, m: u8, n: u8) -> Result<(), NoMemory>
+    requires methods { plan.now.methods ≡ length object.now.methods }
+    requires m_exists { m < plan.now.methods }
+    requires n_exists { n < plan.now.methods }
+    ensures { OnOk result (text.new ≡ text.old ++ flat_map line_text (tables_text.depend_pair object.now plan.now m n)) }
+{
+    if plan.depends(m, n) {
+        push_pair(text, b"depend", object, m, n)?;
+    }
+    Ok(())
+}
+
 /// Row m of the dependencies: the methods on which it depends.
 fn push_depends_of(text: &mut Bytes, object: &Object, plan: &Plan, m: u8) -> Result<(), NoMemory>
     requires methods { plan.now.methods ≡ length object.now.methods }
@@ -43,9 +73,7 @@ fn push_depends_of(text: &mut Bytes, object: &Object, plan: &Plan, m: u8) -> Res
     ensures { OnOk result (text.new ≡ text.old ++ flat_map line_text (tables_text.depend_row object.now plan.now m)) }
 {
     for n in 0..plan.methods() {
-        if plan.depends(m, n) {
-            push_pair(text, b"depend", object, m, n)?;
-        }
+        push_depend(text, object, plan, m, n)?;
     }
     Ok(())
 }
@@ -60,22 +88,45 @@ fn push_dependencies(text: &mut Bytes, object: &Object, plan: &Plan) -> Result<(
     Ok(())
 }
 
-/// The names of a group's methods, each after a space.
-fn push_names_in(
+/// The name of method m after a space, where it is in the group.
+fn push_name_if_in(
     text: &mut Bytes,
     object: &Object,
     plan: &Plan,
     group: u8,
+    m: u8,
 ) -> Result<(), NoMemory>
+    requires methods { plan.now.methods ≡ length object.now.methods }
+    requires exists { m < plan.now.methods }
+    ensures { OnOk result (text.new ≡ text.old ++ flat_map (λ name. 32 ∷ name) (tables_text.name_if_in object.now plan.now group m)) }
+{
+    match plan.group_of(m) {
+        Some(of) => {
+            if of == group {
+                push_name(text, object, m)?;
+            }
+            Ok(())
+        }
+        None => Ok(()),
+    }
+}
+
+/// The names of a group's methods, each after a space.
+fn push_names_in(text: &mut Bytes, object: &Object, plan: &Plan, group: u8) -> Result<(), NoMemory>
     requires methods { plan.now.methods ≡ length object.now.methods }
     ensures { OnOk result (text.new ≡ text.old ++ flat_map (λ name. 32 ∷ name) (tables_text.names_in object.now plan.now group)) }
 {
     for m in 0..plan.methods() {
-        if plan.group_of(m) == Some(group) {
-            push_name(text, object, m)?;
-        }
+        push_name_if_in(text, object, plan, group, m)?;
     }
     Ok(())
+}
+
+/// The line of a group up to its leader.
+fn push_leader(alloc: Global, text: &mut Bytes, group: u8, leader: u8) -> Result<(), NoMemory>
+    ensures { OnOk result (text.new ≡ text.old ++ join_with_byte 32 (codes "group" ∷ decimal group ∷ codes "leader" ∷ decimal leader ∷ [])) }
+{
+    text.extend(format!(in alloc; "group {group} leader {leader}")?.as_bytes())
 }
 
 /// The line of a group.
@@ -89,12 +140,10 @@ fn push_group(
     requires methods { plan.now.methods ≡ length object.now.methods }
     ensures { OnOk result (text.new ≡ text.old ++ line_text (tables_text.group_line object.now plan.now group)) }
 {
-    text.extend(b"group ")?;
-    push_number(alloc, text, u16::from(group))?;
-    text.extend(b" leader ")?;
-    push_number(alloc, text, u16::from(plan.leader_of(group)))?;
+    push_leader(alloc, text, group, plan.leader_of(group))?;
     push_names_in(text, object, plan, group)?;
-    text.push(b'\n')
+    text.push(b'\n')?;
+    Ok(())
 }
 
 fn push_groups(
@@ -121,7 +170,26 @@ fn push_group_lanes(alloc: Global, text: &mut Bytes, plan: &Plan) -> Result<(), 
     Ok(())
 }
 
-/// The lanes of method m, where it is free: one for each replica.
+/// The lanes of a free method: one for each replica.
+fn push_each_lane(
+    alloc: Global,
+    text: &mut Bytes,
+    object: &Object,
+    plan: &Plan,
+    m: u8,
+) -> Result<(), NoMemory>
+    requires methods { plan.now.methods ≡ length object.now.methods }
+    requires exists { m < plan.now.methods }
+    ensures { OnOk result (text.new ≡ text.old ++ flat_map line_text (map (tables_text.own_lane object.now plan.now m) (range_with_len 1 plan.now.replicas))) }
+{
+    for before in 0..plan.replicas() {
+        let replica = before + 1;
+        push_own_lane(alloc, text, object, plan.lane_of(m, replica), m, replica)?;
+    }
+    Ok(())
+}
+
+/// The lanes of method m, where it is free.
 fn push_own_lanes(
     alloc: Global,
     text: &mut Bytes,
@@ -133,14 +201,11 @@ fn push_own_lanes(
     requires exists { m < plan.now.methods }
     ensures { OnOk result (text.new ≡ text.old ++ flat_map line_text (tables_text.own_lanes object.now plan.now m)) }
 {
-    if plan.group_of(m).is_some() {
-        return Ok(());
+    if plan.is_free(m) {
+        push_each_lane(alloc, text, object, plan, m)
+    } else {
+        Ok(())
     }
-    for before in 0..plan.replicas() {
-        let replica = before + 1;
-        push_own_lane(alloc, text, object, plan.lane_of(m, replica), m, replica)?;
-    }
-    Ok(())
 }
 
 fn push_free_lanes(

@@ -1,0 +1,8 @@
+use Rattle.std.proofs.Common.{◌+◌, arith}
+use Rattle.ham_derive.specs.Texts.{line_text}
+use Rattle.ham_tables.specs.TablesText.{group_lane}
+use Rattle.ham_tables.proofs.Written.{each-more}
+use Rattle.ham_tables.proofs.tables.push_group_lanes.Goals as goal
+
+pub loop-group-preserved : goal.loop-group-preserved
+loop-group-preserved c = each-more line_text group_lane 0 c.loop-group.group c.loop-group.group c.args.text.now c.loop-group.text _ (omega arith) c.loop-group.invariant c.in_ok-push_group_lane.ensures
