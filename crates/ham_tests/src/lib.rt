@@ -12,3 +12,5 @@ mod meanings;
 mod replays;
 #[cfg(test)]
 mod runs;
+#[cfg(test)]
+mod whole_objects;

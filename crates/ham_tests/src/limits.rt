@@ -10,7 +10,7 @@ fn an_object_is_too_long_from_one_byte_over_its_limit(rt: HostRuntime) -> Result
     object.resize(1_048_576, b'a')?;
     let (exit, sink) = replay_of(rt.alloc(), &object, b"replicas 1\n", 100)?;
     assert_eq!(rt; exit, Exit::ObjectRefused);
-    assert_eq!(rt; sink.taken(), b"object refused: not yet\n".as_slice());
+    assert_eq!(rt; sink.taken(), b"object refused: not toml\n".as_slice());
     object.push(b'a')?;
     let (exit, sink) = replay_of(rt.alloc(), &object, b"replicas 1\n", 100)?;
     assert_eq!(rt; exit, Exit::TooLong);

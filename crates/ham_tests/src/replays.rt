@@ -17,7 +17,7 @@ fn a_line_is_read_with_the_names_of_the_object(rt: HostRuntime) -> Result<(), Fa
     let cases: [(&[u8], Option<Line>); 5] = [
         (b"replicas 1", Some(Line::Replicas)),
         (b" issue  1 withdraw 7 ", Some(issue)),
-        (b"show 1 balance", Some(Line::Show { counter: 0 })),
+        (b"show 1 balance", Some(Line::Show { counter: 0, key: 0 })),
         (b"show 1 deposit", None),
         (b"issue 1 withdraw 07", None),
     ];
