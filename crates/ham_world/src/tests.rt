@@ -4,7 +4,7 @@ use super::*;
 use ham_meaning::{Issued, Outcome};
 use ham_syntax::{
     Act, Args, Counter, Items, Kind, Name, Object, Param, Place, Raw, RawInvariant, RawMethod,
-    RawPart, RawRelation, RawTerm, Verb,
+    RawPart, RawTerm, Verb,
 };
 use std::alloc::Global;
 use std::process::Abort;
@@ -56,38 +56,6 @@ fn bank(rt: &impl Abort, alloc: Global) -> Result<Object, Fail> {
         relations: Items::new(alloc),
         counters: Items::of(alloc, &[balance])?,
         invariants,
-        methods,
-    };
-    Ok(Object::check(alloc, &raw)?)
-}
-
-/// A relation of pairs, and a method that puts one into it.
-fn pairs(rt: &impl Abort, alloc: Global) -> Result<Object, Fail> {
-    let pair = RawRelation {
-        name: name(rt, "pair"),
-        columns: 2,
-    };
-    let params = ["left", "right"].map(|text| Param {
-        name: name(rt, text),
-        kind: Kind::Id,
-    });
-    let mut effects = Items::new(alloc);
-    effects.push(RawPart {
-        verb: Verb::Insert,
-        name: pair.name,
-        terms: Items::of(alloc, &params.map(|param| RawTerm::Named(param.name)))?,
-    })?;
-    let mut methods = Items::new(alloc);
-    methods.push(RawMethod {
-        name: name(rt, "put"),
-        params: Items::of(alloc, &params)?,
-        guards: Items::new(alloc),
-        effects,
-    })?;
-    let raw = Raw {
-        relations: Items::of(alloc, &[pair])?,
-        counters: Items::new(alloc),
-        invariants: Items::new(alloc),
         methods,
     };
     Ok(Object::check(alloc, &raw)?)
@@ -181,22 +149,5 @@ fn a_lane_takes_65536_calls(rt: HostRuntime) -> Result<(), Fail> {
     let full = StepRefusal::Issue(IssueRefusal::LaneFull);
     assert_eq!(rt; world.step(issue(&rt, 1, DEPOSIT, &[1])), Err(full));
     assert_eq!(rt; world.value(0, 0), 65_536);
-    Ok(())
-}
-
-#[test]
-fn rows_come_out_ascending(rt: HostRuntime) -> Result<(), Fail> {
-    let pairs = pairs(&rt, rt.alloc())?;
-    let mut world = World::new(rt.alloc(), &pairs)?;
-    for pair in [[7, 2], [3, 9], [7, 1], [3, 9]] {
-        world.step(issue(&rt, 1, 0, &pair))?;
-    }
-    let rows = world.rows(rt.alloc(), 0)?;
-    let wanted = [[3, 9], [7, 1], [7, 2]];
-    assert_eq!(rt; rows.items().len(), wanted.len());
-    for (row, ids) in rows.items().iter().zip(wanted) {
-        assert_eq!(rt; row.items(), ids.as_slice());
-    }
-    assert!(rt; world.rows(rt.alloc(), 1)?.items().is_empty());
     Ok(())
 }
