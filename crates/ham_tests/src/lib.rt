@@ -14,3 +14,5 @@ mod replays;
 mod runs;
 #[cfg(test)]
 mod whole_objects;
+#[cfg(test)]
+mod worlds;

@@ -7,6 +7,3 @@ pub mod world;
 
 pub use event::{Event, IssueRefusal, Note, StepRefusal};
 pub use world::{MAX_CALLS, World};
-
-#[cfg(test)]
-mod tests;

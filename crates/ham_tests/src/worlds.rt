@@ -1,65 +1,16 @@
-//! Each public function once, on a bank whose balance is never below 0.
+//! The calls of a world, each once, on a bank whose balance is never below 0.
 
-use super::*;
+use crate::fixtures::BANK;
 use ham_meaning::{Issued, Outcome};
-use ham_syntax::{
-    Act, Args, Counter, Items, Kind, Name, Object, Param, Place, Raw, RawInvariant, RawMethod,
-    RawPart, RawTerm, Verb,
-};
-use std::alloc::Global;
+use ham_objfile::read;
+use ham_syntax::{Act, Args, Place};
+use ham_world::{Event, IssueRefusal, Note, StepRefusal, World};
 use std::process::Abort;
 use std::test::Fail;
 
 const DEPOSIT: u8 = 0;
 
 const WITHDRAW: u8 = 1;
-
-fn name(rt: &impl Abort, text: &str) -> Name {
-    Name::new(text.as_bytes()).expect(rt, "a name")
-}
-
-/// A method whose one effect is this verb on the balance, with the amount that is given.
-fn method(rt: &impl Abort, alloc: Global, text: &str, verb: Verb) -> Result<RawMethod, Fail> {
-    let amount = Param {
-        name: name(rt, "amount"),
-        kind: Kind::Amount,
-    };
-    let mut effects = Items::new(alloc);
-    effects.push(RawPart {
-        verb,
-        name: name(rt, "balance"),
-        terms: Items::of(alloc, &[RawTerm::Named(amount.name)])?,
-    })?;
-    Ok(RawMethod {
-        name: name(rt, text),
-        params: Items::of(alloc, &[amount])?,
-        guards: Items::new(alloc),
-        effects,
-    })
-}
-
-fn bank(rt: &impl Abort, alloc: Global) -> Result<Object, Fail> {
-    let balance = Counter {
-        name: name(rt, "balance"),
-        keyed: false,
-    };
-    let at_least_0 = RawInvariant::Low {
-        counter: balance.name,
-        limit: 0,
-    };
-    let mut invariants = Items::new(alloc);
-    invariants.push(at_least_0)?;
-    let mut methods = Items::new(alloc);
-    methods.push(method(rt, alloc, "deposit", Verb::Add)?)?;
-    methods.push(method(rt, alloc, "withdraw", Verb::Subtract)?)?;
-    let raw = Raw {
-        relations: Items::new(alloc),
-        counters: Items::of(alloc, &[balance])?,
-        invariants,
-        methods,
-    };
-    Ok(Object::check(alloc, &raw)?)
-}
 
 fn act(rt: &impl Abort, method: u8, args: &[u64]) -> Act {
     Act {
@@ -83,7 +34,7 @@ fn applied(number: u32) -> Issued {
 
 #[test]
 fn each_issue_is_answered_by_the_balance(rt: HostRuntime) -> Result<(), Fail> {
-    let bank = bank(&rt, rt.alloc())?;
+    let bank = read(rt.alloc(), BANK)?;
     let mut world = World::new(rt.alloc(), &bank)?;
     assert_eq!(rt; world.value(0, 0), 0);
     assert_eq!(rt; world.object().methods().len(), 2);
@@ -113,7 +64,7 @@ fn each_issue_is_answered_by_the_balance(rt: HostRuntime) -> Result<(), Fail> {
 
 #[test]
 fn a_refused_issue_changes_nothing(rt: HostRuntime) -> Result<(), Fail> {
-    let bank = bank(&rt, rt.alloc())?;
+    let bank = read(rt.alloc(), BANK)?;
     let mut world = World::new(rt.alloc(), &bank)?;
     let cases = [
         (issue(&rt, 0, DEPOSIT, &[5]), StepRefusal::NoSuchReplica),
@@ -140,7 +91,7 @@ fn a_refused_issue_changes_nothing(rt: HostRuntime) -> Result<(), Fail> {
 
 #[test]
 fn a_lane_takes_65536_calls(rt: HostRuntime) -> Result<(), Fail> {
-    let bank = bank(&rt, rt.alloc())?;
+    let bank = read(rt.alloc(), BANK)?;
     let mut world = World::new(rt.alloc(), &bank)?;
     for number in 1..=65_536 {
         let note = world.step(issue(&rt, 1, DEPOSIT, &[1]))?;
