@@ -49,302 +49,324 @@ fn answer_of(alloc: Global, object: &Object, text: &[u8]) -> Result<Answer, Fail
     }
 }
 
+/// The place of the first case of which something else comes.
+fn first_wrong(
+    alloc: Global,
+    file: &[u8],
+    cases: &[(&[u8], Answer)],
+) -> Result<Option<usize>, Fail> {
+    let object = read(alloc, file)?;
+    for (place, (text, answer)) in cases.iter().enumerate() {
+        if answer_of(alloc, &object, text)? != *answer {
+            return Ok(Some(place));
+        }
+    }
+    Ok(None)
+}
+
+const EFFECTS_CASES: [(&[u8], Answer); 10] = [
+    (
+        b"hamsaz derivation 1\nsc up mark\nother\nend\n",
+        Answer::Good,
+    ),
+    (
+        b"hamsaz derivation 1\nsc up down\nother\nend\n",
+        Answer::Gap(1),
+    ),
+    (
+        b"hamsaz derivation 1\nsc up up\ninserts\nend\n",
+        Answer::Good,
+    ),
+    (
+        b"hamsaz derivation 1\nsc up mark\ninserts\nend\n",
+        Answer::Gap(1),
+    ),
+    (
+        b"hamsaz derivation 1\nsc down down\ndeletes\nend\n",
+        Answer::Good,
+    ),
+    (
+        b"hamsaz derivation 1\nsc up up\ndeletes\nend\n",
+        Answer::Gap(1),
+    ),
+    (
+        b"hamsaz derivation 1\nsc up down\napart 1\nend\n",
+        Answer::Good,
+    ),
+    (
+        b"hamsaz derivation 1\nsc up down\napart 2\nend\n",
+        Answer::Gap(1),
+    ),
+    (
+        b"hamsaz derivation 1\nsc up down\napart 0\nend\n",
+        Answer::Gap(1),
+    ),
+    (
+        b"hamsaz derivation 1\nsc up down\nimplied 3\nend\n",
+        Answer::Gap(1),
+    ),
+];
+
+const GUARD_CASES: [(&[u8], Answer); 11] = [
+    (
+        b"hamsaz derivation 1\npr ask join\nharmless\nend\n",
+        Answer::Good,
+    ),
+    (
+        b"hamsaz derivation 1\npr ask leave\nharmless\nend\n",
+        Answer::Gap(1),
+    ),
+    (
+        b"hamsaz derivation 1\npl ask leave\nharmless\nend\n",
+        Answer::Good,
+    ),
+    (
+        b"hamsaz derivation 1\npl ask join\nharmless\nend\n",
+        Answer::Gap(1),
+    ),
+    (
+        b"hamsaz derivation 1\npr ask takeOne\nother\nend\n",
+        Answer::Good,
+    ),
+    (
+        b"hamsaz derivation 1\npr look takeOne\nother\nend\n",
+        Answer::Gap(1),
+    ),
+    (
+        b"hamsaz derivation 1\npr look takeTwo\napart 1\nend\n",
+        Answer::Good,
+    ),
+    (
+        b"hamsaz derivation 1\npr look takeOne\napart 1\nend\n",
+        Answer::Gap(1),
+    ),
+    (
+        b"hamsaz derivation 1\nis look\nimplied 0\nend\n",
+        Answer::Good,
+    ),
+    (
+        b"hamsaz derivation 1\nis want\nimplied 0\nend\n",
+        Answer::Gap(1),
+    ),
+    (
+        b"hamsaz derivation 1\nis look\nimplied 1\nend\n",
+        Answer::Gap(1),
+    ),
+];
+
+const LIMIT_CASES: [(&[u8], Answer); 5] = [
+    (
+        b"hamsaz derivation 1\npr takeOne takeTwo\napart 1\nend\n",
+        Answer::Good,
+    ),
+    (
+        b"hamsaz derivation 1\npr takeOne takeOne\napart 1\nend\n",
+        Answer::Gap(1),
+    ),
+    (
+        b"hamsaz derivation 1\npl takeOne takeTwo\nunrelated\nend\n",
+        Answer::Good,
+    ),
+    (
+        b"hamsaz derivation 1\npr takeOne takeTwo\nunrelated\nend\n",
+        Answer::Gap(1),
+    ),
+    (
+        b"hamsaz derivation 1\nis takeOne\nunrelated\nend\n",
+        Answer::Gap(1),
+    ),
+];
+
+const REFERENCE_CASES: [(&[u8], Answer); 9] = [
+    (
+        b"hamsaz derivation 1\nis deleteCourse\nunrelated\nunrelated\ncascades 1\nunrelated\nend\n",
+        Answer::Good,
+    ),
+    (
+        b"hamsaz derivation 1\nis deleteHalf\nunrelated\nunrelated\ncascades 1\nunrelated\nend\n",
+        Answer::Gap(3),
+    ),
+    (
+        b"hamsaz derivation 1\nis admit\nunrelated\nunrelated\nsupplies 0\nunrelated\nunrelated\nsupplies 1\nend\n",
+        Answer::Good,
+    ),
+    (
+        b"hamsaz derivation 1\nis expel\nunrelated\nsupplies 0\nunrelated\nunrelated\nunrelated\nunrelated\nend\n",
+        Answer::Gap(2),
+    ),
+    (
+        b"hamsaz derivation 1\nis enroll\nunrelated\nunrelated\nend\n",
+        Answer::Gap(1),
+    ),
+    (
+        b"hamsaz derivation 1\nsc deleteCourse enroll\nother\nother\nend\n",
+        Answer::Gap(2),
+    ),
+    (
+        b"hamsaz derivation 1\npl enroll deleteHalf\nunrelated\nunrelated\nunrelated\nunrelated\nend\n",
+        Answer::Good,
+    ),
+    (
+        b"hamsaz derivation 1\npl deleteCourse deleteHalf\nunrelated\nunrelated\nunrelated\nunrelated\nunrelated\ncascades 1\nunrelated\nunrelated\nend\n",
+        Answer::Good,
+    ),
+    (
+        b"hamsaz derivation 1\npl deleteHalf deleteCourse\nunrelated\nunrelated\nunrelated\nunrelated\nunrelated\nunrelated\nunrelated\nunrelated\nend\n",
+        Answer::Gap(6),
+    ),
+];
+
+const KEY_CASES: [(&[u8], Answer); 7] = [
+    (
+        b"hamsaz derivation 1\npr lock lock\nsame\nunrelated\nend\n",
+        Answer::Good,
+    ),
+    (
+        b"hamsaz derivation 1\npr lock write\nunrelated\nsame\nunrelated\nunrelated\nend\n",
+        Answer::Gap(2),
+    ),
+    (
+        b"hamsaz derivation 1\nis put\nunrelated\nwhole\nend\n",
+        Answer::Good,
+    ),
+    (
+        b"hamsaz derivation 1\nis lock\nwhole\nunrelated\nend\n",
+        Answer::Gap(1),
+    ),
+    (
+        b"hamsaz derivation 1\nis write\nunrelated\nreplaces 0\nunrelated\nunrelated\nend\n",
+        Answer::Good,
+    ),
+    (
+        b"hamsaz derivation 1\nis late\nreplaces 1\nunrelated\nunrelated\nunrelated\nend\n",
+        Answer::Gap(1),
+    ),
+    (
+        b"hamsaz derivation 1\npl write write\nunrelated\nunrelated\nreplaces 0\nunrelated\nunrelated\nunrelated\nunrelated\nunrelated\nend\n",
+        Answer::Good,
+    ),
+];
+
+const COUNT_CASES: [(&[u8], Answer); 4] = [
+    (
+        b"hamsaz derivation 1\nsc deposit withdraw\nsums\nend\n",
+        Answer::Good,
+    ),
+    (
+        b"hamsaz derivation 1\nsc deposit withdraw\nend\n",
+        Answer::Gap(1),
+    ),
+    (
+        b"hamsaz derivation 1\nsc deposit withdraw\nsums\nsums\nend\n",
+        Answer::Gap(2),
+    ),
+    (
+        b"hamsaz derivation 1\nsc deposit withdraw\nother\nend\n",
+        Answer::Gap(1),
+    ),
+];
+
+const LINE_CASES: [(&[u8], Answer); 17] = [
+    (b"", Answer::BadLine(1)),
+    (b"hamsaz derivation 1", Answer::BadLine(1)),
+    (
+        b"hamsaz derivation 2\nsc deposit withdraw\nsums\nend\n",
+        Answer::BadLine(1),
+    ),
+    (b"hamsaz derivation 1\n", Answer::BadLine(2)),
+    (
+        b"hamsaz derivation 1\nsc deposit nobody\nsums\nend\n",
+        Answer::BadLine(2),
+    ),
+    (
+        b"hamsaz derivation 1\nsc deposit  withdraw\nsums\nend\n",
+        Answer::BadLine(2),
+    ),
+    (
+        b"hamsaz derivation 1\nis deposit withdraw\nsums\nend\n",
+        Answer::BadLine(2),
+    ),
+    (
+        b"hamsaz derivation 1\nsc deposit withdraw\n",
+        Answer::BadLine(3),
+    ),
+    (
+        b"hamsaz derivation 1\nsc deposit withdraw\napart 256\nend\n",
+        Answer::BadLine(3),
+    ),
+    (
+        b"hamsaz derivation 1\nsc deposit withdraw\napart 01\nend\n",
+        Answer::BadLine(3),
+    ),
+    (
+        b"hamsaz derivation 1\nsc deposit withdraw\napart\nend\n",
+        Answer::BadLine(3),
+    ),
+    (
+        b"hamsaz derivation 1\nsc deposit withdraw\nsums 1\nend\n",
+        Answer::BadLine(3),
+    ),
+    (
+        b"hamsaz derivation 1\nsc deposit withdraw\nsums\nsum\nend\n",
+        Answer::BadLine(4),
+    ),
+    (
+        b"hamsaz derivation 1\nsc deposit withdraw\nsums\n",
+        Answer::BadLine(4),
+    ),
+    (
+        b"hamsaz derivation 1\nsc deposit withdraw\nsums\nend",
+        Answer::BadLine(4),
+    ),
+    (
+        b"hamsaz derivation 1\nsc deposit withdraw\nsums\nend\n\n",
+        Answer::BadLine(5),
+    ),
+    (
+        b"hamsaz derivation 1\nsc deposit withdraw\nsums\nend\nend\n",
+        Answer::BadLine(5),
+    ),
+];
+
 #[test]
 fn each_reason_of_two_effects(rt: HostRuntime) -> Result<(), Fail> {
-    let object = read(rt.alloc(), FLAGS)?;
-    let cases = [
-        (
-            b"hamsaz derivation 1\nsc up mark\nother\nend\n".as_slice(),
-            Answer::Good,
-        ),
-        (
-            b"hamsaz derivation 1\nsc up down\nother\nend\n",
-            Answer::Gap(1),
-        ),
-        (
-            b"hamsaz derivation 1\nsc up up\ninserts\nend\n",
-            Answer::Good,
-        ),
-        (
-            b"hamsaz derivation 1\nsc up mark\ninserts\nend\n",
-            Answer::Gap(1),
-        ),
-        (
-            b"hamsaz derivation 1\nsc down down\ndeletes\nend\n",
-            Answer::Good,
-        ),
-        (
-            b"hamsaz derivation 1\nsc up up\ndeletes\nend\n",
-            Answer::Gap(1),
-        ),
-        (
-            b"hamsaz derivation 1\nsc up down\napart 1\nend\n",
-            Answer::Good,
-        ),
-        (
-            b"hamsaz derivation 1\nsc up down\napart 2\nend\n",
-            Answer::Gap(1),
-        ),
-        (
-            b"hamsaz derivation 1\nsc up down\napart 0\nend\n",
-            Answer::Gap(1),
-        ),
-        (
-            b"hamsaz derivation 1\nsc up down\nimplied 3\nend\n",
-            Answer::Gap(1),
-        ),
-    ];
-    for (text, answer) in cases {
-        assert_eq!(rt; answer_of(rt.alloc(), &object, text)?, answer);
-    }
+    assert_eq!(rt; first_wrong(rt.alloc(), FLAGS, &EFFECTS_CASES)?, None);
     Ok(())
 }
 
 #[test]
 fn each_reason_of_a_guard(rt: HostRuntime) -> Result<(), Fail> {
-    let object = read(rt.alloc(), STORE)?;
-    let cases = [
-        (
-            b"hamsaz derivation 1\npr ask join\nharmless\nend\n".as_slice(),
-            Answer::Good,
-        ),
-        (
-            b"hamsaz derivation 1\npr ask leave\nharmless\nend\n",
-            Answer::Gap(1),
-        ),
-        (
-            b"hamsaz derivation 1\npl ask leave\nharmless\nend\n",
-            Answer::Good,
-        ),
-        (
-            b"hamsaz derivation 1\npl ask join\nharmless\nend\n",
-            Answer::Gap(1),
-        ),
-        (
-            b"hamsaz derivation 1\npr ask takeOne\nother\nend\n",
-            Answer::Good,
-        ),
-        (
-            b"hamsaz derivation 1\npr look takeOne\nother\nend\n",
-            Answer::Gap(1),
-        ),
-        (
-            b"hamsaz derivation 1\npr look takeTwo\napart 1\nend\n",
-            Answer::Good,
-        ),
-        (
-            b"hamsaz derivation 1\npr look takeOne\napart 1\nend\n",
-            Answer::Gap(1),
-        ),
-        (
-            b"hamsaz derivation 1\nis look\nimplied 0\nend\n",
-            Answer::Good,
-        ),
-        (
-            b"hamsaz derivation 1\nis want\nimplied 0\nend\n",
-            Answer::Gap(1),
-        ),
-        (
-            b"hamsaz derivation 1\nis look\nimplied 1\nend\n",
-            Answer::Gap(1),
-        ),
-    ];
-    for (text, answer) in cases {
-        assert_eq!(rt; answer_of(rt.alloc(), &object, text)?, answer);
-    }
+    assert_eq!(rt; first_wrong(rt.alloc(), STORE, &GUARD_CASES)?, None);
     Ok(())
 }
 
 #[test]
 fn each_reason_of_a_limit(rt: HostRuntime) -> Result<(), Fail> {
-    let object = read(rt.alloc(), STORE)?;
-    let cases = [
-        (
-            b"hamsaz derivation 1\npr takeOne takeTwo\napart 1\nend\n".as_slice(),
-            Answer::Good,
-        ),
-        (
-            b"hamsaz derivation 1\npr takeOne takeOne\napart 1\nend\n",
-            Answer::Gap(1),
-        ),
-        (
-            b"hamsaz derivation 1\npl takeOne takeTwo\nunrelated\nend\n",
-            Answer::Good,
-        ),
-        (
-            b"hamsaz derivation 1\npr takeOne takeTwo\nunrelated\nend\n",
-            Answer::Gap(1),
-        ),
-        (
-            b"hamsaz derivation 1\nis takeOne\nunrelated\nend\n",
-            Answer::Gap(1),
-        ),
-    ];
-    for (text, answer) in cases {
-        assert_eq!(rt; answer_of(rt.alloc(), &object, text)?, answer);
-    }
+    assert_eq!(rt; first_wrong(rt.alloc(), STORE, &LIMIT_CASES)?, None);
     Ok(())
 }
 
 #[test]
 fn each_reason_of_a_reference(rt: HostRuntime) -> Result<(), Fail> {
-    let object = read(rt.alloc(), COURSES)?;
-    let cases = [
-        (
-            b"hamsaz derivation 1\nis deleteCourse\nunrelated\nunrelated\ncascades 1\nunrelated\nend\n".as_slice(),
-            Answer::Good,
-        ),
-        (
-            b"hamsaz derivation 1\nis deleteHalf\nunrelated\nunrelated\ncascades 1\nunrelated\nend\n",
-            Answer::Gap(3),
-        ),
-        (
-            b"hamsaz derivation 1\nis admit\nunrelated\nunrelated\nsupplies 0\nunrelated\nunrelated\nsupplies 1\nend\n",
-            Answer::Good,
-        ),
-        (
-            b"hamsaz derivation 1\nis expel\nunrelated\nsupplies 0\nunrelated\nunrelated\nunrelated\nunrelated\nend\n",
-            Answer::Gap(2),
-        ),
-        (
-            b"hamsaz derivation 1\nis enroll\nunrelated\nunrelated\nend\n",
-            Answer::Gap(1),
-        ),
-        (
-            b"hamsaz derivation 1\nsc deleteCourse enroll\nother\nother\nend\n",
-            Answer::Gap(2),
-        ),
-        (
-            b"hamsaz derivation 1\npl enroll deleteHalf\nunrelated\nunrelated\nunrelated\nunrelated\nend\n",
-            Answer::Good,
-        ),
-        (
-            b"hamsaz derivation 1\npl deleteCourse deleteHalf\nunrelated\nunrelated\nunrelated\nunrelated\nunrelated\ncascades 1\nunrelated\nunrelated\nend\n",
-            Answer::Good,
-        ),
-        (
-            b"hamsaz derivation 1\npl deleteHalf deleteCourse\nunrelated\nunrelated\nunrelated\nunrelated\nunrelated\nunrelated\nunrelated\nunrelated\nend\n",
-            Answer::Gap(6),
-        ),
-    ];
-    for (text, answer) in cases {
-        assert_eq!(rt; answer_of(rt.alloc(), &object, text)?, answer);
-    }
+    assert_eq!(rt; first_wrong(rt.alloc(), COURSES, &REFERENCE_CASES)?, None);
     Ok(())
 }
 
 #[test]
 fn each_reason_of_a_key(rt: HostRuntime) -> Result<(), Fail> {
-    let object = read(rt.alloc(), REGISTER)?;
-    let cases = [
-        (
-            b"hamsaz derivation 1\npr lock lock\nsame\nunrelated\nend\n".as_slice(),
-            Answer::Good,
-        ),
-        (
-            b"hamsaz derivation 1\npr lock write\nunrelated\nsame\nunrelated\nunrelated\nend\n",
-            Answer::Gap(2),
-        ),
-        (
-            b"hamsaz derivation 1\nis put\nunrelated\nwhole\nend\n",
-            Answer::Good,
-        ),
-        (
-            b"hamsaz derivation 1\nis lock\nwhole\nunrelated\nend\n",
-            Answer::Gap(1),
-        ),
-        (
-            b"hamsaz derivation 1\nis write\nunrelated\nreplaces 0\nunrelated\nunrelated\nend\n",
-            Answer::Good,
-        ),
-        (
-            b"hamsaz derivation 1\nis late\nreplaces 1\nunrelated\nunrelated\nunrelated\nend\n",
-            Answer::Gap(1),
-        ),
-        (
-            b"hamsaz derivation 1\npl write write\nunrelated\nunrelated\nreplaces 0\nunrelated\nunrelated\nunrelated\nunrelated\nunrelated\nend\n",
-            Answer::Good,
-        ),
-    ];
-    for (text, answer) in cases {
-        assert_eq!(rt; answer_of(rt.alloc(), &object, text)?, answer);
-    }
+    assert_eq!(rt; first_wrong(rt.alloc(), REGISTER, &KEY_CASES)?, None);
     Ok(())
 }
 
 #[test]
 fn a_derivation_has_as_many_reasons_as_the_claim_obligations(rt: HostRuntime) -> Result<(), Fail> {
-    let object = read(rt.alloc(), BANK)?;
-    let cases = [
-        (
-            b"hamsaz derivation 1\nsc deposit withdraw\nsums\nend\n".as_slice(),
-            Answer::Good,
-        ),
-        (
-            b"hamsaz derivation 1\nsc deposit withdraw\nend\n",
-            Answer::Gap(1),
-        ),
-        (
-            b"hamsaz derivation 1\nsc deposit withdraw\nsums\nsums\nend\n",
-            Answer::Gap(2),
-        ),
-        (
-            b"hamsaz derivation 1\nsc deposit withdraw\nother\nend\n",
-            Answer::Gap(1),
-        ),
-    ];
-    for (text, answer) in cases {
-        assert_eq!(rt; answer_of(rt.alloc(), &object, text)?, answer);
-    }
+    assert_eq!(rt; first_wrong(rt.alloc(), BANK, &COUNT_CASES)?, None);
     Ok(())
 }
 
 #[test]
 fn the_first_bad_line_of_a_text_is_named(rt: HostRuntime) -> Result<(), Fail> {
-    let object = read(rt.alloc(), BANK)?;
-    let cases = [
-        (b"".as_slice(), 1),
-        (b"hamsaz derivation 1", 1),
-        (b"hamsaz derivation 2\nsc deposit withdraw\nsums\nend\n", 1),
-        (b"hamsaz derivation 1\n", 2),
-        (b"hamsaz derivation 1\nsc deposit nobody\nsums\nend\n", 2),
-        (b"hamsaz derivation 1\nsc deposit  withdraw\nsums\nend\n", 2),
-        (b"hamsaz derivation 1\nis deposit withdraw\nsums\nend\n", 2),
-        (b"hamsaz derivation 1\nsc deposit withdraw\n", 3),
-        (
-            b"hamsaz derivation 1\nsc deposit withdraw\napart 256\nend\n",
-            3,
-        ),
-        (
-            b"hamsaz derivation 1\nsc deposit withdraw\napart 01\nend\n",
-            3,
-        ),
-        (b"hamsaz derivation 1\nsc deposit withdraw\napart\nend\n", 3),
-        (
-            b"hamsaz derivation 1\nsc deposit withdraw\nsums 1\nend\n",
-            3,
-        ),
-        (
-            b"hamsaz derivation 1\nsc deposit withdraw\nsums\nsum\nend\n",
-            4,
-        ),
-        (b"hamsaz derivation 1\nsc deposit withdraw\nsums\n", 4),
-        (b"hamsaz derivation 1\nsc deposit withdraw\nsums\nend", 4),
-        (
-            b"hamsaz derivation 1\nsc deposit withdraw\nsums\nend\n\n",
-            5,
-        ),
-        (
-            b"hamsaz derivation 1\nsc deposit withdraw\nsums\nend\nend\n",
-            5,
-        ),
-    ];
-    for (text, line) in cases {
-        assert_eq!(rt;
-            answer_of(rt.alloc(), &object, text)?,
-            Answer::BadLine(line)
-        );
-    }
+    assert_eq!(rt; first_wrong(rt.alloc(), BANK, &LINE_CASES)?, None);
     Ok(())
 }
 
