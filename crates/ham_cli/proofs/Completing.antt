@@ -1,35 +1,28 @@
--- A replay of an accepted object and an allowed schedule ends well, unless something outside fails.
-use Rattle.std.proofs.Common.{◌≡◌, ℕ, ◌<◌, List, length, Option, Some, None, ◌⊎◌, inl, inr, refl, sym, subst, ◌∙◌, arith}
+-- A command whose files are allowed ends well, unless something outside fails.
+use Rattle.std.proofs.Common.{◌≡◌, ℕ, List, Option, Some, None, inl, inr, refl, sym, subst, ◌∙◌}
 use Rattle.std.specs.Prelude.{IsSome, IfSome}
 use Rattle.ham_syntax.specs.Objects.{Schema}
 use Rattle.ham_bytes.specs.declared.shelf.File.{File}
-use Rattle.ham_objfile.specs.Accepted.{IsAccepted, IsAcceptedAsOne}
+use Rattle.ham_bytes.specs.Causes.{Rose}
+use Rattle.ham_objfile.specs.Texts.{IsAnsweredOnce}
+use Rattle.ham_rules.specs.declared.claim.Claim.{Claim}
+use Rattle.ham_derive.specs.Texts.{text_of}
 use Rattle.ham_replay.specs.Replays.{played}
+use Rattle.ham_tables.specs.TablesText.{tables_text}
+use Rattle.ham_objfile.specs.Written.{plain_of}
 use Rattle.ham_cli.specs.declared.exit.Exit.{Exit}
 use Rattle.ham_cli.specs.declared.exit.Exit.TheVariants as exits
-use Rattle.ham_bytes.specs.Causes.{Rose}
+use Rattle.ham_cli.specs.declared.named.NamedClaim.{NamedClaim}
 use Rattle.ham_cli.specs.Exits.{IsCounted}
-use Rattle.ham_cli.specs.Commands.{Asked, Replays, asked}
-use Rattle.ham_cli.specs.Runs.{HasFile, HasObject, HasNoObject, IsTooLong, EndsAtObject, EndsAtSchedule, EndsReplay, EndsAs, Completes, max_object, max_schedule}
-
-same_some : (a b : List ℕ) → Some a ≡ Some b → a ≡ b
-same_some a b e = cc
-
--- a name has one file
-one_file : (files : List File) (name : List ℕ) (limit more : ℕ) (a b : List ℕ) → HasFile files name limit a → HasFile files name more b → a ≡ b
-one_file files name limit more a b h k = same_some a b (sym h.holds ∙ k.holds)
-
-not_too_long : (files : List File) (name : List ℕ) (limit : ℕ) (a : List ℕ) → HasFile files name limit a → IsTooLong files name limit → ⊥
-not_too_long files name limit a h k =
-    let same : a ≡ k.0 = same_some a k.0 (sym h.holds ∙ k.1) in
-    let long : limit < length a = subst (λ (x : List ℕ). limit < length x) (sym same) k.2 in
-    omega (arith, h.within)
-
-is_refused : (files : List File) (name : List ℕ) (o : Schema) → HasObject files name o → HasNoObject files name → ⊥
-is_refused files name o h k = k.refused o (subst (λ (x : List ℕ). IsAccepted x o) (one_file files name max_object max_object h.bytes k.bytes h.file k.file) h.accepted)
-
-same_object : IsAcceptedAsOne → (files : List File) (name : List ℕ) (o p : Schema) → HasObject files name o → HasObject files name p → o ≡ p
-same_object one files name o p h k = one k.bytes o p (subst (λ (x : List ℕ). IsAccepted x o) (one_file files name max_object max_object h.bytes k.bytes h.file k.file) h.accepted) k.accepted
+use Rattle.ham_cli.specs.Commands.{Asked, Replays, Normalizes, Checks, Derives, Tabulates, asked}
+use Rattle.ham_cli.specs.Files.{HasFile, max_object, max_schedule}
+use Rattle.ham_cli.specs.ReplayEnds.{EndsAtSchedule}
+use Rattle.ham_cli.specs.CheckEnds.{IsGoodText, ok_line, EndsWith, EndsAtFile}
+use Rattle.ham_cli.specs.DeriveEnds.{claim_named, none_line, EndsWithClaim, EndsWithNames}
+use Rattle.ham_cli.specs.TablesEnds.{EndsWithPlan}
+use Rattle.ham_cli.specs.Writes.{PutsMade}
+use Rattle.ham_cli.specs.Runs.{EndsAs, IsAllowed, Completes}
+use Rattle.ham_cli.proofs.Fine.{Fine, IsCalm, put_fine, made_fine, one_file, not_too_long, stops_fine, from_fine}
 
 -- what is refused isn't done
 not_both : {A : Type 0} (x : Option A) → x ≡ None → IsSome x → ⊥
@@ -39,53 +32,74 @@ not_both (Some a) e h = absurd cc
 refused_there : (o p : Schema) (s t : List ℕ) → o ≡ p → s ≡ t → (played o s).refused ≡ None → (played p t).refused ≡ None
 refused_there o p s t e f none = subst (λ (x : List ℕ). (played p x).refused ≡ None) f (subst (λ (x : Schema). (played x s).refused ≡ None) e none)
 
--- the object is accepted, so a replay doesn't end there but for a fault
-at_object : (files : List File) (name : List ℕ) (o : Schema) (before now : Option (List ℕ)) (reads_failed writes_failed : Type 0) (exit : Exit) → HasObject files name o → ¬ reads_failed → ¬ writes_failed
-    → (exit ≡ exits.ReadFault → reads_failed) → (exit ≡ exits.WriteFault → writes_failed) → EndsAtObject files name before now exit → (exit ≡ exits.Done) ⊎ (exit ≡ exits.NoMemory)
-at_object files name o before now R W exits.ObjectRefused h r w read write e = absurd (is_refused files name o h e.0)
-at_object files name o before now R W exits.WriteFault h r w read write e = absurd (w (write refl))
-at_object files name o before now R W exits.TooLong h r w read write e = absurd (not_too_long files name max_object h.bytes h.file e.0)
-at_object files name o before now R W exits.ReadFault h r w read write e = absurd (r (read refl))
-at_object files name o before now R W exits.NoMemory h r w read write e = inr refl
-at_object files name o before now R W exits.Done h r w read write e = inl refl
-at_object files name o before now R W exits.ScheduleRefused h r w read write e = absurd e
-at_object files name o before now R W exits.Usage h r w read write e = absurd e
-
 -- the schedule's lines are all allowed, so a replay doesn't end before their end but for a fault
-at_schedule : (files : List File) (name s : List ℕ) (o p : Schema) (before now : Option (List ℕ)) (reads_failed writes_failed : Type 0) (exit : Exit) → o ≡ p → HasFile files name max_schedule s → (played o s).refused ≡ None
-    → ¬ reads_failed → ¬ writes_failed → (exit ≡ exits.ReadFault → reads_failed) → (exit ≡ exits.WriteFault → writes_failed) → EndsAtSchedule p files name before now exit → (exit ≡ exits.Done) ⊎ (exit ≡ exits.NoMemory)
-at_schedule files name s o p before now R W exits.Done same h none r w read write e = inl refl
-at_schedule files name s o p before now R W exits.ScheduleRefused same h none r w read write e =
-    absurd (not_both (played p e.0).refused (refused_there o p s e.0 same (one_file files name max_schedule max_schedule s e.0 h e.1.file) none) e.2)
-at_schedule files name s o p before now R W exits.WriteFault same h none r w read write e = absurd (w (write refl))
-at_schedule files name s o p before now R W exits.NoMemory same h none r w read write e = inr refl
-at_schedule files name s o p before now R W exits.TooLong same h none r w read write e = absurd (not_too_long files name max_schedule s h e.0)
-at_schedule files name s o p before now R W exits.ReadFault same h none r w read write e = absurd (r (read refl))
-at_schedule files name s o p before now R W exits.ObjectRefused same h none r w read write e = absurd e
-at_schedule files name s o p before now R W exits.Usage same h none r w read write e = absurd e
+at_schedule : (files : List File) (name s : List ℕ) (o p : Schema) (before now : Option (List ℕ)) (exit : Exit) → o ≡ p → HasFile files name max_schedule s → (played o s).refused ≡ None
+    → IsCalm exit → EndsAtSchedule p files name before now exit → Fine exit
+at_schedule files name s o p before now exits.Done same h none calm e = inl refl
+at_schedule files name s o p before now exits.Usage same h none calm e = absurd e
+at_schedule files name s o p before now exits.ObjectRefused same h none calm e = absurd e
+at_schedule files name s o p before now exits.ScheduleRefused same h none calm e = absurd (not_both (played p e.0).refused (refused_there o p s e.0 same (one_file files name max_schedule max_schedule s e.0 h e.1.file) none) e.2)
+at_schedule files name s o p before now exits.ReadFault same h none calm e = absurd (calm.reads refl)
+at_schedule files name s o p before now exits.WriteFault same h none calm e = absurd (calm.writes refl)
+at_schedule files name s o p before now exits.NoMemory same h none calm e = inr refl
+at_schedule files name s o p before now exits.TooLong same h none calm e = absurd (not_too_long files name max_schedule s h e.0)
+at_schedule files name s o p before now exits.DerivationRefused same h none calm e = absurd e
 
-ended_by : IsAcceptedAsOne → (files : List File) (asks : Asked) (object schedule s : List ℕ) (o : Schema) (before now : Option (List ℕ)) (reads_failed writes_failed : Type 0) (exit : Exit) → (exit ≡ exits.ReadFault → reads_failed) → (exit ≡ exits.WriteFault → writes_failed)
-    → asks ≡ Replays object schedule → EndsAs (Some asks) files before now exit → HasObject files object o → HasFile files schedule max_schedule s → (played o s).refused ≡ None → ¬ reads_failed → ¬ writes_failed → (exit ≡ exits.Done) ⊎ (exit ≡ exits.NoMemory)
-ended_by one files asks object schedule s o before now R W exit read write is ends has_object has_schedule none r w =
-    let replay : EndsReplay files object schedule before now exit = subst (λ (x : Asked). EndsAs (Some x) files before now exit) is ends in
-    elim replay [
-      | inl e ↦ at_object files object o before now R W exit has_object r w read write e
-      | inr e ↦ at_schedule files schedule s o e.0 before now R W exit (same_object one files object o e.0 has_object e.1) has_schedule none r w read write e.2
-    ]
+-- the file is a good derivation's text, so it isn't refused
+with_bytes : (o p : Schema) (bytes b : List ℕ) (before now : Option (List ℕ)) (exit : Exit) → o ≡ p → bytes ≡ b → IsGoodText o bytes → IsCalm exit → EndsWith p b before now exit → Fine exit
+with_bytes o p bytes b before now exit same are good calm h = elim h [
+  | inl r ↦ inr r.0
+  | inr k ↦ elim k [
+    | inl g ↦ put_fine before now ok_line exits.Done exit calm refl g.1
+    | inr r ↦ absurd (r.1.none (subst (λ (x : List ℕ). IsGoodText p x) are (subst (λ (x : Schema). IsGoodText x bytes) same good)))
+  ]
+]
+
+at_file : (files : List File) (name bytes : List ℕ) (o p : Schema) (before now : Option (List ℕ)) (exit : Exit) → o ≡ p → HasFile files name max_object bytes → IsGoodText o bytes → IsCalm exit → EndsAtFile p files name before now exit → Fine exit
+at_file files name bytes o p before now exit same has good calm h = elim h [
+  | inl s ↦ stops_fine files name max_object bytes before now exit calm has s
+  | inr b ↦ with_bytes o p bytes b.0 before now exit same (one_file files name max_object max_object bytes b.0 has b.1) good calm b.2
+]
+
+-- the names are methods, so the claim isn't refused
+with_claim : (p : Schema) (claim : Claim) (before now : Option (List ℕ)) (exit : Exit) → IsCalm exit → EndsWithClaim p claim before now exit → Fine exit
+with_claim p claim before now exit calm h = elim h [
+  | inl r ↦ inr r.0
+  | inr k ↦ elim k [
+    | inl d ↦ made_fine before now (text_of p claim d.0) exit calm d.2
+    | inr u ↦ made_fine before now (none_line u.0) exit calm u.2
+  ]
+]
+
+with_names : (o p : Schema) (named : NamedClaim) (claim : Claim) (before now : Option (List ℕ)) (exit : Exit) → o ≡ p → claim_named o named ≡ Some claim → IsCalm exit → EndsWithNames p (claim_named p named) before now exit → Fine exit
+with_names o p named claim before now exit same is calm h =
+    let there : claim_named p named ≡ Some claim = subst (λ (x : Schema). claim_named x named ≡ Some claim) same is in
+    with_claim p claim before now exit calm (subst (λ (x : Option Claim). EndsWithNames p x before now exit) there h)
+
+ended_by : IsAnsweredOnce → (files : List File) (asks : Asked) (before now : Option (List ℕ)) (exit : Exit) → IsCalm exit → EndsAs (Some asks) files before now exit → IsAllowed asks files → Fine exit
+ended_by one files (Replays object schedule) before now exit calm ends a =
+    from_fine one files object a.0 before now exit (λ o. EndsAtSchedule o files schedule before now exit) calm a.1 (λ p same e. at_schedule files schedule a.2.0 a.0 p before now exit same a.2.1 a.2.2 calm e) ends
+ended_by one files (Normalizes object) before now exit calm ends a =
+    from_fine one files object a.0 before now exit (λ o. PutsMade before now (plain_of o) exits.Done exit) calm a.1 (λ p same e. made_fine before now (plain_of p) exit calm e) ends
+ended_by one files (Checks object file) before now exit calm ends a =
+    from_fine one files object a.0 before now exit (λ o. EndsAtFile o files file before now exit) calm a.1 (λ p same e. at_file files file a.2.0 a.0 p before now exit same a.2.1 a.2.2 calm e) ends
+ended_by one files (Derives object named) before now exit calm ends a =
+    from_fine one files object a.0 before now exit (λ o. EndsWithNames o (claim_named o named) before now exit) calm a.1 (λ p same e. with_names a.0 p named a.2.0 before now exit same a.2.1 calm e) ends
+ended_by one files (Tabulates object replicas) before now exit calm ends a =
+    from_fine one files object a.0 before now exit (λ o. EndsWithPlan o replicas before now exit) calm a.1 (λ p same e. made_fine before now (tables_text p e.0) exit calm e.2) ends
 
 same_asked : (a b : Asked) → Some a ≡ Some b → a ≡ b
 same_asked a b e = cc
 
-read_by : (shelf shelf_now sink sink_now : ℕ) (exit : Exit) → IsCounted shelf shelf_now sink sink_now exit → exit ≡ exits.ReadFault → Rose shelf shelf_now
-read_by shelf shelf_now sink sink_now exit counted e = subst (IsCounted shelf shelf_now sink sink_now) e counted
-
-write_by : (shelf shelf_now sink sink_now : ℕ) (exit : Exit) → IsCounted shelf shelf_now sink sink_now exit → exit ≡ exits.WriteFault → Rose sink sink_now
-write_by shelf shelf_now sink sink_now exit counted e = subst (IsCounted shelf shelf_now sink sink_now) e counted
+calm_by : (shelf shelf_now sink sink_now : ℕ) (exit : Exit) → IsCounted shelf shelf_now sink sink_now exit → ¬ (Rose shelf shelf_now) → ¬ (Rose sink sink_now) → IsCalm exit
+calm_by shelf shelf_now sink sink_now exit counted r w = record {
+  reads = λ (e : exit ≡ exits.ReadFault). r (subst (IsCounted shelf shelf_now sink sink_now) e counted);
+  writes = λ (e : exit ≡ exits.WriteFault). w (subst (IsCounted shelf shelf_now sink sink_now) e counted);
+}
 
 -- what a command that ended so completes
-pub completes : IsAcceptedAsOne → (words : List (List ℕ)) (held : Option (List File)) (asks : Asked) (before now : Option (List ℕ)) (shelf shelf_now sink sink_now : ℕ) (exit : Exit) → IsCounted shelf shelf_now sink sink_now exit
+pub completes : IsAnsweredOnce → (words : List (List ℕ)) (held : Option (List File)) (asks : Asked) (before now : Option (List ℕ)) (shelf shelf_now sink sink_now : ℕ) (exit : Exit) → IsCounted shelf shelf_now sink sink_now exit
     → asked words ≡ Some asks → IfSome held (λ files. EndsAs (Some asks) files before now exit) → IfSome held (λ files. Completes words files (Rose shelf shelf_now) (Rose sink sink_now) exit)
 completes one words None asks before now shelf shelf_now sink sink_now exit counted is ends = tt
-completes one words (Some files) asks before now shelf shelf_now sink sink_now exit counted is ends = λ object schedule o s shape has_object has_schedule none r w.
-    ended_by one files asks object schedule s o before now (Rose shelf shelf_now) (Rose sink sink_now) exit (read_by shelf shelf_now sink sink_now exit counted) (write_by shelf shelf_now sink sink_now exit counted)
-    (same_asked asks (Replays object schedule) (sym is ∙ shape)) ends has_object has_schedule none r w
+completes one words (Some files) asks before now shelf shelf_now sink sink_now exit counted is ends = λ others shape allowed r w.
+    ended_by one files asks before now exit (calm_by shelf shelf_now sink sink_now exit counted r w) ends (subst (λ (x : Asked). IsAllowed x files) (same_asked others asks (sym shape ∙ is)) allowed)

@@ -1,2 +1,5 @@
 pub mod Text
+pub mod Ending
+pub mod Verdicts
+pub mod Fine
 pub mod Completing

@@ -1,7 +1,6 @@
 -- Exits, and their causes.
-use Rattle.std.specs.Prelude.{◌≡◌, ℕ, List, Option}
+use Rattle.std.specs.Prelude.{ℕ}
 use Rattle.ham_bytes.specs.Causes.{Rose}
-use Rattle.ham_bytes.specs.Outside.{TakesWhole, TakesSome}
 use Rattle.ham_bytes.specs.declared.shelf.FetchFault.{FetchFault}
 use Rattle.ham_bytes.specs.declared.shelf.FetchFault.TheVariants as fetches
 use Rattle.ham_replay.specs.declared.end.ReplayEnd.{ReplayEnd}
@@ -19,6 +18,7 @@ number_of exits.ReadFault = 4
 number_of exits.WriteFault = 5
 number_of exits.NoMemory = 6
 number_of exits.TooLong = 7
+number_of exits.DerivationRefused = 8
 
 abbrev pub exit_of_fetch : FetchFault → Exit
 exit_of_fetch fetches.Failed = exits.ReadFault
@@ -31,18 +31,14 @@ exit_of_replay (ends.Refused line why) = exits.ScheduleRefused
 exit_of_replay ends.WriteFault = exits.WriteFault
 exit_of_replay ends.NoMemory = exits.NoMemory
 
--- a line is put whole, and the exit is the one that comes with it, or the sink failed
-abbrev pub PutsLine : Option (List ℕ) → Option (List ℕ) → List ℕ → Exit → Exit → Type 0
-PutsLine before now line with exits.WriteFault = TakesSome before now line
-PutsLine before now line with exit = (exit ≡ with) × TakesWhole before now line
-
 -- a fault of the shelf or of the sink comes only where its count rose
 abbrev pub IsCounted : (shelf shelf_now sink sink_now : ℕ) → Exit → Type 0
 IsCounted shelf shelf_now sink sink_now exits.ReadFault = Rose shelf shelf_now
 IsCounted shelf shelf_now sink sink_now exits.WriteFault = Rose sink sink_now
-IsCounted shelf shelf_now sink sink_now exits.Done = Unit {0}
-IsCounted shelf shelf_now sink sink_now exits.Usage = Unit {0}
-IsCounted shelf shelf_now sink sink_now exits.ObjectRefused = Unit {0}
-IsCounted shelf shelf_now sink sink_now exits.ScheduleRefused = Unit {0}
-IsCounted shelf shelf_now sink sink_now exits.NoMemory = Unit {0}
-IsCounted shelf shelf_now sink sink_now exits.TooLong = Unit {0}
+IsCounted shelf shelf_now sink sink_now _ = Unit {0}
+
+-- the same of what only writes
+abbrev pub IsSinkCounted : (sink sink_now : ℕ) → Exit → Type 0
+IsSinkCounted sink sink_now exits.ReadFault = ⊥
+IsSinkCounted sink sink_now exits.WriteFault = Rose sink sink_now
+IsSinkCounted sink sink_now _ = Unit {0}

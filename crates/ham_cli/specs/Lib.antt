@@ -1,9 +1,24 @@
 pub mod Commands
 pub mod Exits
+pub mod Files
+pub mod Writes
+pub mod Refusals
+pub mod ReplayEnds
+pub mod NormalEnds
+pub mod CheckEnds
+pub mod DeriveEnds
+pub mod TablesEnds
 pub mod Runs
 pub use Rattle.ham_syntax.specs.Objects
 pub use Rattle.ham_bytes.specs.Outside
 pub use Rattle.ham_bytes.specs.Causes
-pub use Rattle.ham_objfile.specs.Accepted
+pub use Rattle.ham_objfile.specs.Texts
+pub use Rattle.ham_objfile.specs.Written
+pub use Rattle.ham_objfile.specs.FaultTexts
+pub use Rattle.ham_derive.specs.Derivations
+pub use Rattle.ham_derive.specs.Texts as DerivationTexts
+pub use Rattle.ham_analyse.specs.Analysis
+pub use Rattle.ham_tables.specs.DerivedPlans
+pub use Rattle.ham_tables.specs.TablesText
 pub use Rattle.ham_world.specs.Headline
 pub use Rattle.ham_replay.specs.Replays

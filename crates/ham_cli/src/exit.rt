@@ -1,6 +1,9 @@
 //! How the program ends.
 
 ghost use Rattle.std.specs.Prelude.{◌≡◌};
+ghost use Rattle.ham_cli.specs.Exits as exits;
+
+use ham_bytes::FetchFault;
 
 /// The exits, with their numbers.
 #[derive(Clone, Copy, Debug, PartialEq, Eq)]
@@ -21,6 +24,8 @@ pub enum Exit {
     NoMemory = 6,
     /// A file is longer than its limit, and nothing was written.
     TooLong = 7,
+    /// The derivation is refused, or a claim names no method, which was written.
+    DerivationRefused = 8,
 }
 
 impl Exit {
@@ -31,5 +36,16 @@ impl Exit {
         ensures { result ≡ number_of self }
     {
         self as u8
+    }
+}
+
+/// How the program ends where a file was not fetched.
+pub fn exit_of_fetch(fault: FetchFault) -> Exit
+    ensures { result ≡ exits.exit_of_fetch fault }
+{
+    match fault {
+        FetchFault::Failed => Exit::ReadFault,
+        FetchFault::TooLong { .. } => Exit::TooLong,
+        FetchFault::NoMemory => Exit::NoMemory,
     }
 }

@@ -1,10 +1,18 @@
 //! The top call: what the words of the command line ask, done over a shelf and a sink.
 #![tactic(auto)]
 
+mod checks;
 mod command;
+mod derives;
 mod exit;
+mod named;
+mod normals;
+mod objects;
+mod refusal;
 mod replays;
+mod tabulates;
 mod top;
+mod writes;
 
 pub use exit::Exit;
 pub use top::run;

@@ -1,20 +1,16 @@
 //! The command `replay OBJECT SCHEDULE`.
 
 ghost use Rattle.std.specs.Prelude.{◌≡◌, ◌≤◌, IfSome};
-ghost use Rattle.ham_bytes.specs.Causes.{Rose};
-ghost use Rattle.ham_cli.specs.Runs as runs;
+ghost use Rattle.ham_cli.specs.ReplayEnds as replay_ends;
 ghost use Rattle.ham_cli.specs.Exits as exits;
 ghost use Rattle.ham_cli.specs.Exits.{IsCounted};
 
-use crate::exit::Exit;
-use ham_bytes::{FetchFault, Shelf, Sink, SinkFault, put_all};
-use ham_objfile::{FileFault, read};
+use crate::exit::{Exit, exit_of_fetch};
+use crate::objects::{fetch_object, tell_missing};
+use ham_bytes::{Shelf, Sink};
 use ham_replay::{ReplayEnd, replay};
 use ham_syntax::Object;
 use std::alloc::Global;
-
-/// The longest object, in bytes.
-pub const MAX_OBJECT: u64 = 1_048_576;
 
 /// The longest schedule, in bytes.
 pub const MAX_SCHEDULE: u64 = 67_108_864;
@@ -27,17 +23,12 @@ pub fn run_replay<H: Shelf, K: Sink>(
     shelf: &mut H,
     out: &mut K,
 ) -> Exit
-    ensures ends { IfSome (H.held shelf.old) (λ files. runs.EndsReplay files object.now schedule.now (K.taken out.old) (K.taken out.new) result) }
+    ensures ends { IfSome (H.held shelf.old) (λ files. replay_ends.EndsReplay files object.now schedule.now (K.taken out.old) (K.taken out.new) result) }
     ensures counted { IsCounted (H.faults shelf.old) (H.faults shelf.new) (K.faults out.old) (K.faults out.new) result }
 {
-    let bytes = match shelf.fetch(alloc, object, MAX_OBJECT) {
-        Ok(bytes) => bytes,
-        Err(fault) => return exit_of_fetch(fault),
-    };
-    match read(alloc, bytes.items()) {
+    match fetch_object(alloc, object, shelf) {
         Ok(object) => replay_file(alloc, &object, schedule, shelf, out),
-        Err(FileFault::NotYet) => refuse_object(out),
-        Err(FileFault::NoMemory) => Exit::NoMemory,
+        Err(missing) => tell_missing(alloc, missing, out),
     }
 }
 
@@ -49,7 +40,7 @@ fn replay_file<H: Shelf, K: Sink>(
     shelf: &mut H,
     out: &mut K,
 ) -> Exit
-    ensures ends { IfSome (H.held shelf.old) (λ files. runs.EndsAtSchedule object.now files schedule.now (K.taken out.old) (K.taken out.new) result) }
+    ensures ends { IfSome (H.held shelf.old) (λ files. replay_ends.EndsAtSchedule object.now files schedule.now (K.taken out.old) (K.taken out.new) result) }
     ensures counted { IsCounted (H.faults shelf.old) (H.faults shelf.new) (K.faults out.old) (K.faults out.new) result }
 {
     let bytes = match shelf.fetch(alloc, schedule, MAX_SCHEDULE) {
@@ -57,16 +48,6 @@ fn replay_file<H: Shelf, K: Sink>(
         Err(fault) => return exit_of_fetch(fault),
     };
     exit_of_replay(replay(alloc, object, bytes.items(), out))
-}
-
-fn exit_of_fetch(fault: FetchFault) -> Exit
-    ensures { result ≡ exits.exit_of_fetch fault }
-{
-    match fault {
-        FetchFault::Failed => Exit::ReadFault,
-        FetchFault::TooLong { .. } => Exit::TooLong,
-        FetchFault::NoMemory => Exit::NoMemory,
-    }
 }
 
 fn exit_of_replay(end: ReplayEnd) -> Exit
@@ -77,17 +58,5 @@ fn exit_of_replay(end: ReplayEnd) -> Exit
         ReplayEnd::Refused { .. } => Exit::ScheduleRefused,
         ReplayEnd::WriteFault => Exit::WriteFault,
         ReplayEnd::NoMemory => Exit::NoMemory,
-    }
-}
-
-/// Writes that the object is refused.
-fn refuse_object<K: Sink>(out: &mut K) -> Exit
-    ensures ends { exits.PutsLine (K.taken out.old) (K.taken out.new) runs.object_refusal Exit.ObjectRefused result }
-    ensures later { K.faults out.old ≤ K.faults out.new }
-    ensures cause { result ≡ Exit.WriteFault → Rose (K.faults out.old) (K.faults out.new) }
-{
-    match put_all(out, b"object refused: not yet\n") {
-        Ok(()) => Exit::ObjectRefused,
-        Err(SinkFault) => Exit::WriteFault,
     }
 }

@@ -2,15 +2,20 @@
 
 ghost use Rattle.std.specs.Prelude.{◌≡◌, ◌≤◌, Some, IfSome};
 ghost use Rattle.ham_bytes.specs.Causes.{Rose};
-ghost use Rattle.ham_cli.specs.Commands.{seen};
-ghost use Rattle.ham_cli.specs.Exits.{PutsLine, IsCounted};
+ghost use Rattle.ham_cli.specs.Commands.{seen, HasReplicas};
+ghost use Rattle.ham_cli.specs.Exits.{IsCounted};
 ghost use Rattle.ham_cli.specs.Runs as runs;
 
+use crate::checks::run_check;
 use crate::command::{Command, command_of};
+use crate::derives::run_derive;
 use crate::exit::Exit;
+use crate::normals::run_normal;
 use crate::replays::run_replay;
-use ham_bytes::{Shelf, Sink, SinkFault, Words, put_all};
-use ham_objfile::accepted_as_one;
+use crate::tabulates::run_tables;
+use crate::writes::put_text;
+use ham_bytes::{Shelf, Sink, Words};
+use ham_objfile::answered_once;
 use std::alloc::Global;
 
 const USAGE: &[u8] =
@@ -25,35 +30,28 @@ pub fn run<H: Shelf, K: Sink>(alloc: Global, words: &Words, shelf: &mut H, out: 
     ensures write { result ≡ Exit.WriteFault → Rose (K.faults out.old) (K.faults out.new) }
 {
     // The law by which an object's file has one meaning: completeness rests on it.
-    accepted_as_one();
+    answered_once();
     match command_of(words.items()) {
-        Some(command) => perform(alloc, command, shelf, out),
-        None => usage(out),
+        Some(command) => perform(alloc, &command, shelf, out),
+        None => put_text(out, USAGE, Exit::Usage),
     }
 }
 
 fn perform<H: Shelf, K: Sink>(
     alloc: Global,
-    command: Command<'_>,
+    command: &Command<'_>,
     shelf: &mut H,
     out: &mut K,
 ) -> Exit
-    ensures ends { IfSome (H.held shelf.old) (λ files. runs.EndsAs (Some (seen command.entry)) files (K.taken out.old) (K.taken out.new) result) }
+    requires { HasReplicas command.now }
+    ensures ends { IfSome (H.held shelf.old) (λ files. runs.EndsAs (Some (seen command.now)) files (K.taken out.old) (K.taken out.new) result) }
     ensures counted { IsCounted (H.faults shelf.old) (H.faults shelf.new) (K.faults out.old) (K.faults out.new) result }
 {
-    match command {
+    match *command {
         Command::Replay { object, schedule } => run_replay(alloc, object, schedule, shelf, out),
-    }
-}
-
-/// Writes the usage line.
-fn usage<K: Sink>(out: &mut K) -> Exit
-    ensures ends { PutsLine (K.taken out.old) (K.taken out.new) runs.usage_line Exit.Usage result }
-    ensures later { K.faults out.old ≤ K.faults out.new }
-    ensures cause { result ≡ Exit.WriteFault → Rose (K.faults out.old) (K.faults out.new) }
-{
-    match put_all(out, USAGE) {
-        Ok(()) => Exit::Usage,
-        Err(SinkFault) => Exit::WriteFault,
+        Command::Normal { object } => run_normal(alloc, object, shelf, out),
+        Command::Check { object, file } => run_check(alloc, object, file, shelf, out),
+        Command::Derive { object, claim } => run_derive(alloc, object, claim, shelf, out),
+        Command::Tables { object, replicas } => run_tables(alloc, object, replicas, shelf, out),
     }
 }

@@ -2,8 +2,8 @@
 
 use super::{name, raw};
 use crate::{
-    Act, Args, Cols, Counter, Effect, Guard, Invariant, Kind, MAX_AMOUNT, Object, Param, Relation,
-    Term, Terms,
+    Act, Args, Cols, Effect, Guard, Invariant, Kind, MAX_AMOUNT, Method, Object, Relation, Term,
+    Terms,
 };
 use std::test::Fail;
 
@@ -11,32 +11,39 @@ const BANK: &str =
     "counter balance plain; low balance 0; method deposit; amount a; effect add balance a; method withdraw; amount a; effect subtract balance a";
 
 #[test]
-fn the_bank_is_taken_as_it_is_meant(rt: HostRuntime) -> Result<(), Fail> {
+fn the_bank_keeps_its_balance_at_0_or_above(rt: HostRuntime) -> Result<(), Fail> {
     let bank = Object::check(rt.alloc(), &raw(&rt, rt.alloc(), BANK)?)?;
-    let balance = Counter {
-        name: name(&rt, "balance"),
-        keyed: false,
-    };
-    assert_eq!(rt; bank.counters(), [balance].as_slice());
+    let balance = bank.counters().first().expect(&rt, "a counter");
+    assert_eq!(rt; balance.name, name(&rt, "balance"));
+    assert!(rt; !balance.keyed);
     let at_least_0 = Invariant::Low {
         counter: 0,
         limit: 0,
     };
-    assert_eq!(rt; bank.invariants(), [at_least_0].as_slice());
+    assert_eq!(rt; bank.invariants().first(), Some(&at_least_0));
+    Ok(())
+}
+
+/// Each method has one parameter of the kind, and no guard.
+fn take_one(methods: &[Method], kind: Kind) -> bool {
+    methods.iter().all(|method| {
+        method.guards.items().is_empty()
+            && method.params.items().len() == 1
+            && method.params.items()[0].kind == kind
+    })
+}
+
+#[test]
+fn deposits_and_withdrawals_take_an_amount(rt: HostRuntime) -> Result<(), Fail> {
+    let bank = Object::check(rt.alloc(), &raw(&rt, rt.alloc(), BANK)?)?;
+    assert_eq!(rt; bank.methods().len(), 2);
+    assert!(rt; take_one(bank.methods(), Kind::Amount));
     let add = Effect::Add {
         counter: 0,
         key: None,
         amount: Term::Param(0),
     };
     assert_eq!(rt; first_effect(&bank), Some(add));
-    let a = Param {
-        name: name(&rt, "a"),
-        kind: Kind::Amount,
-    };
-    for method in bank.methods() {
-        assert_eq!(rt; method.params.items(), [a].as_slice());
-        assert!(rt; method.guards.items().is_empty());
-    }
     Ok(())
 }
 
@@ -69,24 +76,36 @@ const SHOP: &str =
     "counter orders plain; counter stock keyed; high stock 0; low stock -5; method order; amount count; id item; guard atleast stock item 4294967295; guard atmost orders count; effect subtract stock 18446744073709551615 count";
 
 #[test]
-fn names_become_the_numbers_of_counters(rt: HostRuntime) -> Result<(), Fail> {
+fn limits_name_their_counters_by_number(rt: HostRuntime) -> Result<(), Fail> {
     let shop = Object::check(rt.alloc(), &raw(&rt, rt.alloc(), SHOP)?)?;
     let high = Invariant::High {
         counter: 1,
         limit: 0,
     };
+    assert_eq!(rt; shop.invariants().get(0), Some(&high));
     let low = Invariant::Low {
         counter: 1,
         limit: -5,
     };
-    assert_eq!(rt; shop.invariants().get(0), Some(&high));
     assert_eq!(rt; shop.invariants().get(1), Some(&low));
+    Ok(())
+}
+
+#[test]
+fn a_guard_names_its_counter_and_key_by_number(rt: HostRuntime) -> Result<(), Fail> {
+    let shop = Object::check(rt.alloc(), &raw(&rt, rt.alloc(), SHOP)?)?;
     let at_least = Guard::AtLeast {
         counter: 1,
         key: Some(Term::Param(1)),
         amount: Term::Const(MAX_AMOUNT),
     };
     assert_eq!(rt; first_guard(&shop), Some(at_least));
+    Ok(())
+}
+
+#[test]
+fn an_effect_names_its_counter_and_key_by_number(rt: HostRuntime) -> Result<(), Fail> {
+    let shop = Object::check(rt.alloc(), &raw(&rt, rt.alloc(), SHOP)?)?;
     let subtract = Effect::Subtract {
         counter: 1,
         key: Some(Term::Const(u64::MAX)),

@@ -1,4 +1,4 @@
--- How `run` completes a replay.
+-- How `run` completes what the words ask.
 use Rattle.std.proofs.Common.{sym, ap, ◌∙◌}
 use Rattle.ham_cli.specs.Commands.{asked}
 use Rattle.ham_cli.proofs.Completing.{completes}
@@ -6,5 +6,5 @@ use Rattle.ham_cli.proofs.top.run.Goals as goal
 
 pub returns-in-Some-clause-complete : goal.returns-in-Some-clause-complete
 returns-in-Some-clause-complete g c =
-    completes c.accepted_as_one.ensures _ _ _ _ _ _ _ _ _ c.perform.result c.perform.ensures.counted
-    (ap asked (sym c.items.ensures) ∙ c.in-Some.ensures) c.perform.ensures.ends
+    completes c.answered_once.ensures _ _ _ _ _ _ _ _ _ c.perform.result c.perform.ensures.counted
+    (ap asked (sym c.items.ensures) ∙ c.in-Some.ensures.shape) c.perform.ensures.ends

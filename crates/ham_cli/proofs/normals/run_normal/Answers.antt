@@ -1,0 +1,11 @@
+use Rattle.ham_cli.proofs.Ending.{ends_missing, ends_found}
+use Rattle.ham_cli.proofs.normals.run_normal.Goals as goal
+
+pub returns-in-Ok-clause-ends : goal.returns-in-Ok-clause-ends
+returns-in-Ok-clause-ends g c = ends_found _ _ _ _ _ _ _ c.in-Ok.ensures.found (λ files. c.put_made.ensures.ends _ c.print.ensures.form)
+
+pub returns-in-Err-clause-ends : goal.returns-in-Err-clause-ends
+returns-in-Err-clause-ends g c = ends_missing _ _ _ _ _ _ _ c.in-Err.ensures.found c.tell_missing.ensures.ends
+
+pub returns-in-Err-clause-counted : goal.returns-in-Err-clause-counted
+returns-in-Err-clause-counted g c = c.tell_missing.ensures.counted _ _ c.in-Err.ensures.counted
