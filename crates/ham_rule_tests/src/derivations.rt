@@ -6,408 +6,255 @@ use ham_rules::{
     CaseTable, Claim, ConditionKind, EffectKind, Obligation, Reason, apart_at, can_break,
     first_reason, obligation, obligations,
 };
-use ham_syntax::{Object, Term, Terms};
+use ham_syntax::{NoMemory, Object, Term, Terms};
 use std::alloc::Global;
+use std::process::Abort;
 use std::test::Fail;
 
 /// An account that stays at zero or above.
-const BANK: &[u8] =
-    b"hamsaz object 1\ncounter balance plain\ninvariant low balance 0\nmethod deposit\nparam a amount\neffect add balance a\nmethod withdraw\nparam a amount\neffect subtract balance a\nend\n";
+const BANK: &str =
+    "hamsaz object 1\ncounter balance plain\ninvariant low balance 0\nmethod deposit\nparam a amount\neffect add balance a\nmethod withdraw\nparam a amount\neffect subtract balance a\nend\n";
 
 /// Flags of which one method raises the first, and one lowers the second.
-const FLAGS: &[u8] =
-    b"hamsaz object 1\nrelation flag 1\nrelation mark 1\nmethod up\neffect insert flag #1\nmethod down\neffect delete flag #2\nmethod mark\neffect insert mark #1\nend\n";
+const FLAGS: &str =
+    "hamsaz object 1\nrelation flag 1\nrelation mark 1\nmethod up\neffect insert flag #1\nmethod down\neffect delete flag #2\nmethod mark\neffect insert mark #1\nend\n";
 
 /// Students, courses and enrolled students, of which a course takes its own along.
-const COURSES: &[u8] =
-    b"hamsaz object 1\nrelation student 1\nrelation course 1\nrelation enrolled 2\ninvariant reference enrolled student 1\ninvariant reference enrolled course 2\nmethod deleteCourse\nparam c id\neffect delete course c\neffect delete enrolled _ c\nmethod enroll\nparam s id\nparam c id\neffect insert enrolled s c\nmethod deleteHalf\nparam c id\neffect delete course c\neffect delete enrolled #1 c\nmethod admit\nparam s id\nparam c id\neffect insert student s\neffect insert course c\neffect insert enrolled s c\nmethod expel\nparam s id\nparam c id\neffect insert student s\neffect insert enrolled s c\neffect delete student s\nend\n";
+const COURSES: &str =
+    "hamsaz object 1\nrelation student 1\nrelation course 1\nrelation enrolled 2\ninvariant reference enrolled student 1\ninvariant reference enrolled course 2\nmethod deleteCourse\nparam c id\neffect delete course c\neffect delete enrolled _ c\nmethod enroll\nparam s id\nparam c id\neffect insert enrolled s c\nmethod deleteHalf\nparam c id\neffect delete course c\neffect delete enrolled #1 c\nmethod admit\nparam s id\nparam c id\neffect insert student s\neffect insert course c\neffect insert enrolled s c\nmethod expel\nparam s id\nparam c id\neffect insert student s\neffect insert enrolled s c\neffect delete student s\nend\n";
 
 /// One value for each key: written over, written once, or always the same.
-const REGISTER: &[u8] =
-    b"hamsaz object 1\nrelation reg 2\nrelation tag 1\ninvariant unique reg 1\ninvariant unique tag 1\nmethod write\nparam k id\nparam v id\neffect delete reg k _\neffect insert reg k v\nmethod late\nparam k id\nparam v id\neffect insert reg k v\neffect delete reg k _\nmethod lock\nparam k id\neffect insert reg k #7\nmethod put\nparam t id\neffect insert tag t\nend\n";
+const REGISTER: &str =
+    "hamsaz object 1\nrelation reg 2\nrelation tag 1\ninvariant unique reg 1\ninvariant unique tag 1\nmethod write\nparam k id\nparam v id\neffect delete reg k _\neffect insert reg k v\nmethod late\nparam k id\nparam v id\neffect insert reg k v\neffect delete reg k _\nmethod lock\nparam k id\neffect insert reg k #7\nmethod put\nparam t id\neffect insert tag t\nend\n";
 
 /// Members who are asked for, and a stock of things by number that stays at zero or above.
-const STORE: &[u8] =
-    b"hamsaz object 1\nrelation member 1\ncounter stock keyed\ninvariant low stock 0\nmethod ask\nparam m id\nguard present member m\nmethod join\nparam m id\neffect insert member m\nmethod leave\nparam m id\neffect delete member m\nmethod look\nguard atleast stock #1 #0\nmethod want\nguard atleast stock #1 #1\nmethod takeOne\nparam a amount\neffect subtract stock #1 a\nmethod takeTwo\nparam a amount\neffect subtract stock #2 a\nend\n";
+const STORE: &str =
+    "hamsaz object 1\nrelation member 1\ncounter stock keyed\ninvariant low stock 0\nmethod ask\nparam m id\nguard present member m\nmethod join\nparam m id\neffect insert member m\nmethod leave\nparam m id\neffect delete member m\nmethod look\nguard atleast stock #1 #0\nmethod want\nguard atleast stock #1 #1\nmethod takeOne\nparam a amount\neffect subtract stock #1 a\nmethod takeTwo\nparam a amount\neffect subtract stock #2 a\nend\n";
 
 /// What comes of a text as a derivation of an object's claim.
-#[derive(Clone, Copy, Debug, PartialEq, Eq)]
-enum Answer {
-    Good,
-    Gap(u32),
-    BadLine(u64),
-}
-
-fn answer_of(alloc: Global, object: &Object, text: &[u8]) -> Result<Answer, Fail> {
+fn answer_of(alloc: Global, object: &Object, text: &[u8]) -> Result<String, Fail> {
     match read_text(alloc, object, text) {
-        Ok((claim, derivation)) => Ok(match check(object, &claim, &derivation) {
-            Ok(()) => Answer::Good,
-            Err(Gap { obligation }) => Answer::Gap(obligation),
-        }),
-        Err(TextFault::BadLine { line }) => Ok(Answer::BadLine(line)),
-        Err(TextFault::NoMemory) => Err(Fail::new("out of memory")),
+        Ok((claim, derivation)) => match check(object, &claim, &derivation) {
+            Ok(()) => Ok(format!(in alloc; "good")?),
+            Err(Gap { obligation }) => Ok(format!(in alloc; "gap {obligation}")?),
+        },
+        Err(TextFault::BadLine { line }) => Ok(format!(in alloc; "line {line}")?),
+        Err(TextFault::NoMemory) => Err(NoMemory)?,
     }
 }
 
-/// The place of the first case of which something else comes.
-fn first_wrong(
-    alloc: Global,
-    file: &[u8],
-    cases: &[(&[u8], Answer)],
-) -> Result<Option<usize>, Fail> {
-    let object = read(alloc, file)?;
-    for (place, (text, answer)) in cases.iter().enumerate() {
-        if answer_of(alloc, &object, text)? != *answer {
-            return Ok(Some(place));
+/// A text with each semicolon as a line's end.
+fn lines_of(alloc: Global, text: &str) -> Result<String, Fail> {
+    let mut lines = String::new(alloc);
+    for part in text.split_inclusive(';') {
+        match part.strip_suffix(';') {
+            Some(line) => lines.push_str(format!(in alloc; "{line}\n")?.as_str())?,
+            None => lines.push_str(part)?,
         }
     }
-    Ok(None)
+    Ok(lines)
 }
 
-const EFFECTS_CASES: [(&[u8], Answer); 10] = [
-    (
-        b"hamsaz derivation 1\nsc up mark\nother\nend\n",
-        Answer::Good,
-    ),
-    (
-        b"hamsaz derivation 1\nsc up down\nother\nend\n",
-        Answer::Gap(1),
-    ),
-    (
-        b"hamsaz derivation 1\nsc up up\ninserts\nend\n",
-        Answer::Good,
-    ),
-    (
-        b"hamsaz derivation 1\nsc up mark\ninserts\nend\n",
-        Answer::Gap(1),
-    ),
-    (
-        b"hamsaz derivation 1\nsc down down\ndeletes\nend\n",
-        Answer::Good,
-    ),
-    (
-        b"hamsaz derivation 1\nsc up up\ndeletes\nend\n",
-        Answer::Gap(1),
-    ),
-    (
-        b"hamsaz derivation 1\nsc up down\napart 1\nend\n",
-        Answer::Good,
-    ),
-    (
-        b"hamsaz derivation 1\nsc up down\napart 2\nend\n",
-        Answer::Gap(1),
-    ),
-    (
-        b"hamsaz derivation 1\nsc up down\napart 0\nend\n",
-        Answer::Gap(1),
-    ),
-    (
-        b"hamsaz derivation 1\nsc up down\nimplied 3\nend\n",
-        Answer::Gap(1),
-    ),
-];
+/// Each line of the cases names its answer, and then the text between a beginning and an end.
+fn answers_hold(
+    rt: &impl Abort,
+    alloc: Global,
+    object: &str,
+    frame: (&str, &str),
+    cases: &str,
+) -> Result<(), Fail> {
+    let object = read(alloc, object.as_bytes())?;
+    let mut tried = 0;
+    for case in cases.lines() {
+        if let Some((answer, text)) = case.split_once(": ") {
+            let text = format!(in alloc; "{}{}{}", frame.0, text, frame.1)?;
+            let text = lines_of(alloc, text.as_str())?;
+            let found = answer_of(alloc, &object, text.as_bytes())?;
+            assert_eq!(rt; found.as_str(), answer, "{case}");
+            tried += 1;
+        }
+    }
+    assert!(rt; tried > 3);
+    Ok(())
+}
 
-const GUARD_CASES: [(&[u8], Answer); 11] = [
-    (
-        b"hamsaz derivation 1\npr ask join\nharmless\nend\n",
-        Answer::Good,
-    ),
-    (
-        b"hamsaz derivation 1\npr ask leave\nharmless\nend\n",
-        Answer::Gap(1),
-    ),
-    (
-        b"hamsaz derivation 1\npl ask leave\nharmless\nend\n",
-        Answer::Good,
-    ),
-    (
-        b"hamsaz derivation 1\npl ask join\nharmless\nend\n",
-        Answer::Gap(1),
-    ),
-    (
-        b"hamsaz derivation 1\npr ask takeOne\nother\nend\n",
-        Answer::Good,
-    ),
-    (
-        b"hamsaz derivation 1\npr look takeOne\nother\nend\n",
-        Answer::Gap(1),
-    ),
-    (
-        b"hamsaz derivation 1\npr look takeTwo\napart 1\nend\n",
-        Answer::Good,
-    ),
-    (
-        b"hamsaz derivation 1\npr look takeOne\napart 1\nend\n",
-        Answer::Gap(1),
-    ),
-    (
-        b"hamsaz derivation 1\nis look\nimplied 0\nend\n",
-        Answer::Good,
-    ),
-    (
-        b"hamsaz derivation 1\nis want\nimplied 0\nend\n",
-        Answer::Gap(1),
-    ),
-    (
-        b"hamsaz derivation 1\nis look\nimplied 1\nend\n",
-        Answer::Gap(1),
-    ),
-];
+/// A derivation but for its claim and reasons.
+const FRAME: (&str, &str) = ("hamsaz derivation 1;", "end;");
 
-const LIMIT_CASES: [(&[u8], Answer); 5] = [
-    (
-        b"hamsaz derivation 1\npr takeOne takeTwo\napart 1\nend\n",
-        Answer::Good,
-    ),
-    (
-        b"hamsaz derivation 1\npr takeOne takeOne\napart 1\nend\n",
-        Answer::Gap(1),
-    ),
-    (
-        b"hamsaz derivation 1\npl takeOne takeTwo\nunrelated\nend\n",
-        Answer::Good,
-    ),
-    (
-        b"hamsaz derivation 1\npr takeOne takeTwo\nunrelated\nend\n",
-        Answer::Gap(1),
-    ),
-    (
-        b"hamsaz derivation 1\nis takeOne\nunrelated\nend\n",
-        Answer::Gap(1),
-    ),
-];
+const EFFECTS_CASES: &str = "
+good: sc up mark;other;
+gap 1: sc up down;other;
+good: sc up up;inserts;
+gap 1: sc up mark;inserts;
+good: sc down down;deletes;
+gap 1: sc up up;deletes;
+good: sc up down;apart 1;
+gap 1: sc up down;apart 2;
+gap 1: sc up down;apart 0;
+gap 1: sc up down;implied 3;
+";
 
-const REFERENCE_CASES: [(&[u8], Answer); 9] = [
-    (
-        b"hamsaz derivation 1\nis deleteCourse\nunrelated\nunrelated\ncascades 1\nunrelated\nend\n",
-        Answer::Good,
-    ),
-    (
-        b"hamsaz derivation 1\nis deleteHalf\nunrelated\nunrelated\ncascades 1\nunrelated\nend\n",
-        Answer::Gap(3),
-    ),
-    (
-        b"hamsaz derivation 1\nis admit\nunrelated\nunrelated\nsupplies 0\nunrelated\nunrelated\nsupplies 1\nend\n",
-        Answer::Good,
-    ),
-    (
-        b"hamsaz derivation 1\nis expel\nunrelated\nsupplies 0\nunrelated\nunrelated\nunrelated\nunrelated\nend\n",
-        Answer::Gap(2),
-    ),
-    (
-        b"hamsaz derivation 1\nis enroll\nunrelated\nunrelated\nend\n",
-        Answer::Gap(1),
-    ),
-    (
-        b"hamsaz derivation 1\nsc deleteCourse enroll\nother\nother\nend\n",
-        Answer::Gap(2),
-    ),
-    (
-        b"hamsaz derivation 1\npl enroll deleteHalf\nunrelated\nunrelated\nunrelated\nunrelated\nend\n",
-        Answer::Good,
-    ),
-    (
-        b"hamsaz derivation 1\npl deleteCourse deleteHalf\nunrelated\nunrelated\nunrelated\nunrelated\nunrelated\ncascades 1\nunrelated\nunrelated\nend\n",
-        Answer::Good,
-    ),
-    (
-        b"hamsaz derivation 1\npl deleteHalf deleteCourse\nunrelated\nunrelated\nunrelated\nunrelated\nunrelated\nunrelated\nunrelated\nunrelated\nend\n",
-        Answer::Gap(6),
-    ),
-];
+const GUARD_CASES: &str = "
+good: pr ask join;harmless;
+gap 1: pr ask leave;harmless;
+good: pl ask leave;harmless;
+gap 1: pl ask join;harmless;
+good: pr ask takeOne;other;
+gap 1: pr look takeOne;other;
+good: pr look takeTwo;apart 1;
+gap 1: pr look takeOne;apart 1;
+good: is look;implied 0;
+gap 1: is want;implied 0;
+gap 1: is look;implied 1;
+";
 
-const KEY_CASES: [(&[u8], Answer); 7] = [
-    (
-        b"hamsaz derivation 1\npr lock lock\nsame\nunrelated\nend\n",
-        Answer::Good,
-    ),
-    (
-        b"hamsaz derivation 1\npr lock write\nunrelated\nsame\nunrelated\nunrelated\nend\n",
-        Answer::Gap(2),
-    ),
-    (
-        b"hamsaz derivation 1\nis put\nunrelated\nwhole\nend\n",
-        Answer::Good,
-    ),
-    (
-        b"hamsaz derivation 1\nis lock\nwhole\nunrelated\nend\n",
-        Answer::Gap(1),
-    ),
-    (
-        b"hamsaz derivation 1\nis write\nunrelated\nreplaces 0\nunrelated\nunrelated\nend\n",
-        Answer::Good,
-    ),
-    (
-        b"hamsaz derivation 1\nis late\nreplaces 1\nunrelated\nunrelated\nunrelated\nend\n",
-        Answer::Gap(1),
-    ),
-    (
-        b"hamsaz derivation 1\npl write write\nunrelated\nunrelated\nreplaces 0\nunrelated\nunrelated\nunrelated\nunrelated\nunrelated\nend\n",
-        Answer::Good,
-    ),
-];
+const LIMIT_CASES: &str = "
+good: pr takeOne takeTwo;apart 1;
+gap 1: pr takeOne takeOne;apart 1;
+good: pl takeOne takeTwo;unrelated;
+gap 1: pr takeOne takeTwo;unrelated;
+gap 1: is takeOne;unrelated;
+";
 
-const COUNT_CASES: [(&[u8], Answer); 4] = [
-    (
-        b"hamsaz derivation 1\nsc deposit withdraw\nsums\nend\n",
-        Answer::Good,
-    ),
-    (
-        b"hamsaz derivation 1\nsc deposit withdraw\nend\n",
-        Answer::Gap(1),
-    ),
-    (
-        b"hamsaz derivation 1\nsc deposit withdraw\nsums\nsums\nend\n",
-        Answer::Gap(2),
-    ),
-    (
-        b"hamsaz derivation 1\nsc deposit withdraw\nother\nend\n",
-        Answer::Gap(1),
-    ),
-];
+const REFERENCE_CASES: &str = "
+good: is deleteCourse;unrelated;unrelated;cascades 1;unrelated;
+gap 3: is deleteHalf;unrelated;unrelated;cascades 1;unrelated;
+good: is admit;unrelated;unrelated;supplies 0;unrelated;unrelated;supplies 1;
+gap 2: is expel;unrelated;supplies 0;unrelated;unrelated;unrelated;unrelated;
+gap 1: is enroll;unrelated;unrelated;
+gap 2: sc deleteCourse enroll;other;other;
+good: pl enroll deleteHalf;unrelated;unrelated;unrelated;unrelated;
+good: pl deleteCourse deleteHalf;unrelated;unrelated;unrelated;unrelated;unrelated;cascades 1;unrelated;unrelated;
+gap 6: pl deleteHalf deleteCourse;unrelated;unrelated;unrelated;unrelated;unrelated;unrelated;unrelated;unrelated;
+";
 
-const LINE_CASES: [(&[u8], Answer); 17] = [
-    (b"", Answer::BadLine(1)),
-    (b"hamsaz derivation 1", Answer::BadLine(1)),
-    (
-        b"hamsaz derivation 2\nsc deposit withdraw\nsums\nend\n",
-        Answer::BadLine(1),
-    ),
-    (b"hamsaz derivation 1\n", Answer::BadLine(2)),
-    (
-        b"hamsaz derivation 1\nsc deposit nobody\nsums\nend\n",
-        Answer::BadLine(2),
-    ),
-    (
-        b"hamsaz derivation 1\nsc deposit  withdraw\nsums\nend\n",
-        Answer::BadLine(2),
-    ),
-    (
-        b"hamsaz derivation 1\nis deposit withdraw\nsums\nend\n",
-        Answer::BadLine(2),
-    ),
-    (
-        b"hamsaz derivation 1\nsc deposit withdraw\n",
-        Answer::BadLine(3),
-    ),
-    (
-        b"hamsaz derivation 1\nsc deposit withdraw\napart 256\nend\n",
-        Answer::BadLine(3),
-    ),
-    (
-        b"hamsaz derivation 1\nsc deposit withdraw\napart 01\nend\n",
-        Answer::BadLine(3),
-    ),
-    (
-        b"hamsaz derivation 1\nsc deposit withdraw\napart\nend\n",
-        Answer::BadLine(3),
-    ),
-    (
-        b"hamsaz derivation 1\nsc deposit withdraw\nsums 1\nend\n",
-        Answer::BadLine(3),
-    ),
-    (
-        b"hamsaz derivation 1\nsc deposit withdraw\nsums\nsum\nend\n",
-        Answer::BadLine(4),
-    ),
-    (
-        b"hamsaz derivation 1\nsc deposit withdraw\nsums\n",
-        Answer::BadLine(4),
-    ),
-    (
-        b"hamsaz derivation 1\nsc deposit withdraw\nsums\nend",
-        Answer::BadLine(4),
-    ),
-    (
-        b"hamsaz derivation 1\nsc deposit withdraw\nsums\nend\n\n",
-        Answer::BadLine(5),
-    ),
-    (
-        b"hamsaz derivation 1\nsc deposit withdraw\nsums\nend\nend\n",
-        Answer::BadLine(5),
-    ),
-];
+const KEY_CASES: &str = "
+good: pr lock lock;same;unrelated;
+gap 2: pr lock write;unrelated;same;unrelated;unrelated;
+good: is put;unrelated;whole;
+gap 1: is lock;whole;unrelated;
+good: is write;unrelated;replaces 0;unrelated;unrelated;
+gap 1: is late;replaces 1;unrelated;unrelated;unrelated;
+good: pl write write;unrelated;unrelated;replaces 0;unrelated;unrelated;unrelated;unrelated;unrelated;
+";
+
+const COUNT_CASES: &str = "
+good: sc deposit withdraw;sums;
+gap 1: sc deposit withdraw;
+gap 2: sc deposit withdraw;sums;sums;
+gap 1: sc deposit withdraw;other;
+";
+
+const LINE_CASES: &str = "
+line 1: 
+line 1: hamsaz derivation 1
+line 1: hamsaz derivation 2;sc deposit withdraw;sums;end;
+line 2: hamsaz derivation 1;
+line 2: hamsaz derivation 1;sc deposit nobody;sums;end;
+line 2: hamsaz derivation 1;sc deposit  withdraw;sums;end;
+line 2: hamsaz derivation 1;is deposit withdraw;sums;end;
+line 3: hamsaz derivation 1;sc deposit withdraw;
+line 3: hamsaz derivation 1;sc deposit withdraw;apart 256;end;
+line 3: hamsaz derivation 1;sc deposit withdraw;apart 01;end;
+line 3: hamsaz derivation 1;sc deposit withdraw;apart;end;
+line 3: hamsaz derivation 1;sc deposit withdraw;sums 1;end;
+line 4: hamsaz derivation 1;sc deposit withdraw;sums;sum;end;
+line 4: hamsaz derivation 1;sc deposit withdraw;sums;
+line 4: hamsaz derivation 1;sc deposit withdraw;sums;end
+line 5: hamsaz derivation 1;sc deposit withdraw;sums;end;;
+line 5: hamsaz derivation 1;sc deposit withdraw;sums;end;end;
+";
 
 #[test]
 fn each_reason_of_two_effects(rt: HostRuntime) -> Result<(), Fail> {
-    assert_eq!(rt; first_wrong(rt.alloc(), FLAGS, &EFFECTS_CASES)?, None);
-    Ok(())
+    answers_hold(&rt, rt.alloc(), FLAGS, FRAME, EFFECTS_CASES)
 }
 
 #[test]
 fn each_reason_of_a_guard(rt: HostRuntime) -> Result<(), Fail> {
-    assert_eq!(rt; first_wrong(rt.alloc(), STORE, &GUARD_CASES)?, None);
-    Ok(())
+    answers_hold(&rt, rt.alloc(), STORE, FRAME, GUARD_CASES)
 }
 
 #[test]
 fn each_reason_of_a_limit(rt: HostRuntime) -> Result<(), Fail> {
-    assert_eq!(rt; first_wrong(rt.alloc(), STORE, &LIMIT_CASES)?, None);
-    Ok(())
+    answers_hold(&rt, rt.alloc(), STORE, FRAME, LIMIT_CASES)
 }
 
 #[test]
 fn each_reason_of_a_reference(rt: HostRuntime) -> Result<(), Fail> {
-    assert_eq!(rt; first_wrong(rt.alloc(), COURSES, &REFERENCE_CASES)?, None);
-    Ok(())
+    answers_hold(&rt, rt.alloc(), COURSES, FRAME, REFERENCE_CASES)
 }
 
 #[test]
 fn each_reason_of_a_key(rt: HostRuntime) -> Result<(), Fail> {
-    assert_eq!(rt; first_wrong(rt.alloc(), REGISTER, &KEY_CASES)?, None);
-    Ok(())
+    answers_hold(&rt, rt.alloc(), REGISTER, FRAME, KEY_CASES)
 }
 
 #[test]
 fn a_derivation_has_as_many_reasons_as_the_claim_obligations(rt: HostRuntime) -> Result<(), Fail> {
-    assert_eq!(rt; first_wrong(rt.alloc(), BANK, &COUNT_CASES)?, None);
-    Ok(())
+    answers_hold(&rt, rt.alloc(), BANK, FRAME, COUNT_CASES)
 }
 
 #[test]
 fn the_first_bad_line_of_a_text_is_named(rt: HostRuntime) -> Result<(), Fail> {
-    assert_eq!(rt; first_wrong(rt.alloc(), BANK, &LINE_CASES)?, None);
-    Ok(())
+    answers_hold(&rt, rt.alloc(), BANK, ("", ""), LINE_CASES)
 }
+
+const PRINTED: &str = "
+sc deposit withdraw;other;inserts;deletes;sums;harmless;unrelated;same;whole;apart 255;supplies 0;cascades 10;replaces 7;implied 31;
+is withdraw;
+pr withdraw deposit;sums;
+pl withdraw withdraw;
+";
 
 #[test]
 fn what_is_read_is_printed_as_it_stood(rt: HostRuntime) -> Result<(), Fail> {
-    let object = read(rt.alloc(), BANK)?;
-    let texts = [
-        b"hamsaz derivation 1\nsc deposit withdraw\nother\ninserts\ndeletes\nsums\nharmless\nunrelated\nsame\nwhole\napart 255\nsupplies 0\ncascades 10\nreplaces 7\nimplied 31\nend\n".as_slice(),
-        b"hamsaz derivation 1\nis withdraw\nend\n",
-        b"hamsaz derivation 1\npr withdraw deposit\nsums\nend\n",
-        b"hamsaz derivation 1\npl withdraw withdraw\nend\n",
-    ];
-    for text in texts {
-        let (claim, derivation) = read_text(rt.alloc(), &object, text)?;
-        let printed = print_text(rt.alloc(), &object, &claim, &derivation)?;
-        assert_eq!(rt; printed.items(), text);
+    let object = read(rt.alloc(), BANK.as_bytes())?;
+    let mut printed = 0;
+    for case in PRINTED.lines() {
+        if case.ends_with(';') {
+            let text = format!(in rt.alloc(); "{}{}{}", FRAME.0, case, FRAME.1)?;
+            let text = lines_of(rt.alloc(), text.as_str())?;
+            let (claim, derivation) = read_text(rt.alloc(), &object, text.as_bytes())?;
+            let found = print_text(rt.alloc(), &object, &claim, &derivation)?;
+            assert!(rt; found.items() == text.as_bytes());
+            printed += 1;
+        }
+    }
+    assert_eq!(rt; printed, 4);
+    Ok(())
+}
+
+#[test]
+fn obligations_are_numbered_from_1(rt: HostRuntime) -> Result<(), Fail> {
+    let object = read(rt.alloc(), COURSES.as_bytes())?;
+    let claim = Claim::Sc { m: 0, n: 1 };
+    let owed = obligations(&object, &claim);
+    assert_eq!(rt; owed, 2);
+    if owed == 2 {
+        let second = obligation(&object, &claim, 2);
+        assert_eq!(rt; second, Obligation::Pair { i: 1, j: 0 });
     }
     Ok(())
 }
 
 #[test]
-fn obligations_are_numbered_and_have_first_reasons(rt: HostRuntime) -> Result<(), Fail> {
-    let object = read(rt.alloc(), COURSES)?;
+fn the_first_reason_of_two_effects_is_found(rt: HostRuntime) -> Result<(), Fail> {
+    let object = read(rt.alloc(), COURSES.as_bytes())?;
     let claim = Claim::Sc { m: 0, n: 1 };
-    assert_eq!(rt; obligations(&object, &claim), 2);
-    let owed = [
-        (1, Obligation::Pair { i: 0, j: 0 }, Some(Reason::Other)),
-        (2, Obligation::Pair { i: 1, j: 0 }, None),
-    ];
-    for (k, what, reason) in owed {
-        assert_eq!(rt; first_reason(&object, &claim, &what), reason);
-        if 0 < k && k <= obligations(&object, &claim) {
-            assert_eq!(rt; obligation(&object, &claim, k), what);
-        }
-    }
-    let flags = read(rt.alloc(), FLAGS)?;
-    let pair = Obligation::Pair { i: 0, j: 0 };
-    assert_eq!(rt;
-        first_reason(&flags, &Claim::Sc { m: 0, n: 1 }, &pair),
-        Some(Reason::Apart(1))
-    );
+    let other = first_reason(&object, &claim, &Obligation::Pair { i: 0, j: 0 });
+    assert_eq!(rt; other, Some(Reason::Other));
+    let none = first_reason(&object, &claim, &Obligation::Pair { i: 1, j: 0 });
+    assert_eq!(rt; none, None);
+    Ok(())
+}
+
+#[test]
+fn effects_on_other_rows_are_apart(rt: HostRuntime) -> Result<(), Fail> {
+    let object = read(rt.alloc(), FLAGS.as_bytes())?;
+    let claim = Claim::Sc { m: 0, n: 1 };
+    let apart = first_reason(&object, &claim, &Obligation::Pair { i: 0, j: 0 });
+    assert_eq!(rt; apart, Some(Reason::Apart(1)));
     Ok(())
 }
 
