@@ -4,6 +4,7 @@ use crate::fixtures::{BANK, shelf_of, words_of};
 use ham_bytes::MemSink;
 use ham_cli::{Exit, run};
 use std::alloc::Global;
+use std::process::Abort;
 use std::test::Fail;
 
 /// Words, the object `bank`, the file `plan`, the exit and what is written.
@@ -303,99 +304,90 @@ fn outcome_of(
     Ok((exit, sink))
 }
 
-#[test]
-fn normal_writes_the_plain_form(rt: HostRuntime) -> Result<(), Fail> {
-    for (words, object, file, want, text) in NORMAL {
-        let (exit, sink) = outcome_of(rt.alloc(), words, object, file)?;
-        assert_eq!(rt; exit, want);
-        assert_eq!(rt; sink.taken(), text);
+/// Each case ends as it says.
+fn end_so(rt: &impl Abort, alloc: Global, cases: &[Case]) -> Result<(), Fail> {
+    for (words, object, file, wanted, text) in cases {
+        let (exit, sink) = outcome_of(alloc, words, object, file)?;
+        assert!(rt; exit == *wanted);
+        assert!(rt; sink.taken() == *text);
     }
     Ok(())
+}
+
+/// All words end alike over the bank.
+fn all_end_so(
+    rt: &impl Abort,
+    alloc: Global,
+    cases: &[&[&[u8]]],
+    wanted: Exit,
+    text: &[u8],
+) -> Result<(), Fail> {
+    for words in cases {
+        let (exit, sink) = outcome_of(alloc, words, BANK, b"")?;
+        assert!(rt; exit == wanted);
+        assert!(rt; sink.taken() == text);
+    }
+    Ok(())
+}
+
+#[test]
+fn normal_writes_the_plain_form(rt: HostRuntime) -> Result<(), Fail> {
+    end_so(&rt, rt.alloc(), &NORMAL)
 }
 
 #[test]
 fn an_objects_first_fault_is_told(rt: HostRuntime) -> Result<(), Fail> {
-    for (words, object, file, want, text) in REFUSED {
-        let (exit, sink) = outcome_of(rt.alloc(), words, object, file)?;
-        assert_eq!(rt; exit, want);
-        assert_eq!(rt; sink.taken(), text);
-    }
-    Ok(())
+    end_so(&rt, rt.alloc(), &REFUSED)
 }
 
 #[test]
 fn check_tells_whether_a_derivation_is_good(rt: HostRuntime) -> Result<(), Fail> {
-    for (words, object, file, want, text) in CHECKED {
-        let (exit, sink) = outcome_of(rt.alloc(), words, object, file)?;
-        assert_eq!(rt; exit, want);
-        assert_eq!(rt; sink.taken(), text);
-    }
-    Ok(())
+    end_so(&rt, rt.alloc(), &CHECKED)
 }
 
 #[test]
 fn derive_writes_a_derivation_or_the_first_obligation_without_a_reason(
     rt: HostRuntime,
 ) -> Result<(), Fail> {
-    for (words, object, file, want, text) in DERIVED {
-        let (exit, sink) = outcome_of(rt.alloc(), words, object, file)?;
-        assert_eq!(rt; exit, want);
-        assert_eq!(rt; sink.taken(), text);
-    }
-    Ok(())
+    end_so(&rt, rt.alloc(), &DERIVED)
 }
 
 #[test]
 fn tables_writes_the_derived_plan(rt: HostRuntime) -> Result<(), Fail> {
-    for (words, object, file, want, text) in TABLES {
-        let (exit, sink) = outcome_of(rt.alloc(), words, object, file)?;
-        assert_eq!(rt; exit, want);
-        assert_eq!(rt; sink.taken(), text);
-    }
-    Ok(())
+    end_so(&rt, rt.alloc(), &TABLES)
 }
+
+const SHAPELESS: [&[&[u8]]; 16] = [
+    &[b"normal"],
+    &[b"normal", b"bank", b"plan"],
+    &[b"check", b"bank"],
+    &[b"derive", b"bank", b"is"],
+    &[b"derive", b"bank", b"sc", b"deposit"],
+    &[b"derive", b"bank", b"is", b"deposit", b"withdraw"],
+    &[b"derive", b"bank", b"xx", b"deposit", b"withdraw"],
+    &[b"derive", b"bank", b"is", b"9lives"],
+    &[b"derive", b"bank", b"sc", b"deposit", b""],
+    &[b"tables", b"bank", b"0"],
+    &[b"tables", b"bank", b"9"],
+    &[b"tables", b"bank", b"03"],
+    &[b"tables", b"bank", b"+3"],
+    &[b"tables", b"bank", b""],
+    &[b"normal", b"\xff"],
+    &[b"bulk", b"bank", b"1", b"2", b"3"],
+];
 
 #[test]
 fn words_of_no_shape_give_the_usage_line(rt: HostRuntime) -> Result<(), Fail> {
-    let cases: [&[&[u8]]; 16] = [
-        &[b"normal"],
-        &[b"normal", b"bank", b"plan"],
-        &[b"check", b"bank"],
-        &[b"derive", b"bank", b"is"],
-        &[b"derive", b"bank", b"sc", b"deposit"],
-        &[b"derive", b"bank", b"is", b"deposit", b"withdraw"],
-        &[b"derive", b"bank", b"xx", b"deposit", b"withdraw"],
-        &[b"derive", b"bank", b"is", b"9lives"],
-        &[b"derive", b"bank", b"sc", b"deposit", b""],
-        &[b"tables", b"bank", b"0"],
-        &[b"tables", b"bank", b"9"],
-        &[b"tables", b"bank", b"03"],
-        &[b"tables", b"bank", b"+3"],
-        &[b"tables", b"bank", b""],
-        &[b"normal", b"\xff"],
-        &[b"bulk", b"bank", b"1", b"2", b"3"],
-    ];
-    for words in cases {
-        let (exit, sink) = outcome_of(rt.alloc(), words, BANK, b"")?;
-        assert_eq!(rt; exit, Exit::Usage);
-        assert_eq!(rt; sink.taken(), USAGE);
-    }
-    Ok(())
+    all_end_so(&rt, rt.alloc(), &SHAPELESS, Exit::Usage, USAGE)
 }
 
+const OF_ABSENT_FILES: [&[&[u8]]; 3] = [
+    &[b"derive", b"absent", b"is", b"nobody"],
+    &[b"check", b"bank", b"absent"],
+    &[b"tables", b"absent", b"3"],
+];
+
 #[test]
-fn an_unknown_name_is_told_after_the_object_and_a_missing_file_after_it(
-    rt: HostRuntime,
-) -> Result<(), Fail> {
-    let absent: [&[&[u8]]; 3] = [
-        &[b"derive", b"absent", b"is", b"nobody"],
-        &[b"check", b"bank", b"absent"],
-        &[b"tables", b"absent", b"3"],
-    ];
-    for words in absent {
-        let (exit, sink) = outcome_of(rt.alloc(), words, BANK, b"")?;
-        assert_eq!(rt; exit, Exit::ReadFault);
-        assert_eq!(rt; sink.taken(), b"".as_slice());
-    }
-    Ok(())
+fn each_command_ends_at_a_missing_file(rt: HostRuntime) -> Result<(), Fail> {
+    all_end_so(&rt, rt.alloc(), &OF_ABSENT_FILES, Exit::ReadFault, b"")
 }

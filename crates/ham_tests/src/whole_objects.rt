@@ -7,13 +7,16 @@ use std::process::Abort;
 use std::test::Fail;
 
 /// A value for each id: `write` takes the old one away, and `put` doesn't.
-const REGISTER: &[u8] = b"hamsaz object 1\nrelation reg 2\ninvariant unique reg 1\nmethod write\nparam k id\nparam v id\neffect delete reg k _\neffect insert reg k v\nmethod put\nparam k id\nparam v id\neffect insert reg k v\nend\n";
+const REGISTER: &[u8] =
+    b"hamsaz object 1\nrelation reg 2\ninvariant unique reg 1\nmethod write\nparam k id\nparam v id\neffect delete reg k _\neffect insert reg k v\nmethod put\nparam k id\nparam v id\neffect insert reg k v\nend\n";
 
 /// Students, courses, and who takes which. `begin` does the three inserts at once, the one that refers first.
-const COURSES: &[u8] = b"hamsaz object 1\nrelation student 1\nrelation course 1\nrelation enrolled 2\ninvariant reference enrolled student 1\ninvariant reference enrolled course 2\nmethod addStudent\nparam s id\neffect insert student s\nmethod addCourse\nparam c id\neffect insert course c\nmethod removeCourse\nparam c id\neffect delete course c\nmethod enroll\nparam s id\nparam c id\neffect insert enrolled s c\nmethod leave\nparam s id\neffect delete enrolled s _\nmethod begin\nparam s id\nparam c id\neffect insert enrolled s c\neffect insert student s\neffect insert course c\nend\n";
+const COURSES: &[u8] =
+    b"hamsaz object 1\nrelation student 1\nrelation course 1\nrelation enrolled 2\ninvariant reference enrolled student 1\ninvariant reference enrolled course 2\nmethod addStudent\nparam s id\neffect insert student s\nmethod addCourse\nparam c id\neffect insert course c\nmethod removeCourse\nparam c id\neffect delete course c\nmethod enroll\nparam s id\nparam c id\neffect insert enrolled s c\nmethod leave\nparam s id\neffect delete enrolled s _\nmethod begin\nparam s id\nparam c id\neffect insert enrolled s c\neffect insert student s\neffect insert course c\nend\n";
 
 /// Members, what each has in stock, 0 to 100, and how much was ever filled in.
-const STOCK: &[u8] = b"hamsaz object 1\nrelation member 1\ncounter stock keyed\ncounter filled plain\ninvariant low stock 0\ninvariant high stock 100\nmethod join\nparam k id\nguard absent member k\neffect insert member k\nmethod fill\nparam k id\nparam n amount\nguard present member k\neffect add stock k n\neffect add filled n\nmethod take\nparam k id\nparam n amount\nguard atleast stock k n\neffect subtract stock k n\nmethod leave\nparam k id\nguard atmost stock k #0\nguard present member k\neffect delete member k\nmethod close\nguard absent member _\neffect subtract filled #1\nend\n";
+const STOCK: &[u8] =
+    b"hamsaz object 1\nrelation member 1\ncounter stock keyed\ncounter filled plain\ninvariant low stock 0\ninvariant high stock 100\nmethod join\nparam k id\nguard absent member k\neffect insert member k\nmethod fill\nparam k id\nparam n amount\nguard present member k\neffect add stock k n\neffect add filled n\nmethod take\nparam k id\nparam n amount\nguard atleast stock k n\neffect subtract stock k n\nmethod leave\nparam k id\nguard atmost stock k #0\nguard present member k\neffect delete member k\nmethod close\nguard absent member _\neffect subtract filled #1\nend\n";
 
 fn replays(
     rt: &impl Abort,
