@@ -5,6 +5,7 @@ use crate::{
     Act, Args, Cols, Effect, Guard, Invariant, Kind, MAX_AMOUNT, Method, Object, Relation, Term,
     Terms,
 };
+use std::process::Abort;
 use std::test::Fail;
 
 const BANK: &str =
@@ -48,27 +49,40 @@ fn deposits_and_withdrawals_take_an_amount(rt: HostRuntime) -> Result<(), Fail> 
 }
 
 #[test]
-fn the_bank_knows_its_names_and_what_fits(rt: HostRuntime) -> Result<(), Fail> {
+fn the_bank_knows_its_names(rt: HostRuntime) -> Result<(), Fail> {
     let bank = Object::check(rt.alloc(), &raw(&rt, rt.alloc(), BANK)?)?;
     assert_eq!(rt; bank.counter_named(&name(&rt, "balance")), Some(0));
     assert_eq!(rt; bank.counter_named(&name(&rt, "deposit")), None);
     assert_eq!(rt; bank.method_named(&name(&rt, "withdraw")), Some(1));
     assert_eq!(rt; bank.method_named(&name(&rt, "balance")), None);
-    let one = Args::new(&[MAX_AMOUNT]).expect(&rt, "one");
-    let too_large = Args::new(&[MAX_AMOUNT + 1]).expect(&rt, "one");
-    let two = Args::new(&[1, 2]).expect(&rt, "two");
-    let none = Args::new(&[]).expect(&rt, "none");
-    let cases = [
-        (0, one, true),
-        (1, one, true),
-        (2, one, false),
-        (1, too_large, false),
-        (0, two, false),
-        (0, none, false),
-    ];
-    for (method, args, fits) in cases {
-        assert_eq!(rt; bank.args_fit(&Act { method, args }), fits);
+    Ok(())
+}
+
+/// A method, arguments, and whether they fit.
+const FITTING: [(u8, &[u64], bool); 6] = [
+    (0, &[MAX_AMOUNT], true),
+    (1, &[MAX_AMOUNT], true),
+    (2, &[MAX_AMOUNT], false),
+    (1, &[MAX_AMOUNT + 1], false),
+    (0, &[1, 2], false),
+    (0, &[], false),
+];
+
+fn fit_so(rt: &impl Abort, object: &Object, cases: &[(u8, &[u64], bool)]) {
+    for (method, numbers, fits) in cases {
+        let args = Args::new(numbers).expect(rt, "few");
+        let act = Act {
+            method: *method,
+            args,
+        };
+        assert!(rt; object.args_fit(&act) == *fits);
     }
+}
+
+#[test]
+fn arguments_fit_their_method(rt: HostRuntime) -> Result<(), Fail> {
+    let bank = Object::check(rt.alloc(), &raw(&rt, rt.alloc(), BANK)?)?;
+    fit_so(&rt, &bank, &FITTING);
     Ok(())
 }
 
