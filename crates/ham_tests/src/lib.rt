@@ -4,6 +4,8 @@
 #[cfg(test)]
 mod commands;
 #[cfg(test)]
+mod derivations;
+#[cfg(test)]
 mod faults;
 pub mod fixtures;
 #[cfg(test)]
