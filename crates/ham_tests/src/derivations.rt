@@ -55,7 +55,25 @@ fn lines_of(alloc: Global, text: &str) -> Result<String, Fail> {
     Ok(lines)
 }
 
-/// Each line of the cases names its answer, and then the text between a beginning and an end.
+/// The text between the derivation's first line and its last, where there are any.
+fn framed(alloc: Global, text: &str, frame: (&str, &str)) -> Result<String, Fail> {
+    let whole = format!(in alloc; "{}{}{}", frame.0, text, frame.1)?;
+    lines_of(alloc, whole.as_str())
+}
+
+fn answers_so(
+    alloc: Global,
+    object: &Object,
+    text: &str,
+    frame: (&str, &str),
+    answer: &str,
+) -> Result<bool, Fail> {
+    let text = framed(alloc, text, frame)?;
+    let found = answer_of(alloc, object, text.as_bytes())?;
+    Ok(found.as_str() == answer)
+}
+
+/// Each line of the cases names its answer, and then the text in the frame.
 fn answers_hold(
     rt: &impl Abort,
     alloc: Global,
@@ -67,10 +85,7 @@ fn answers_hold(
     let mut tried = false;
     for case in cases.lines() {
         if let Some((answer, text)) = case.split_once(": ") {
-            let text = format!(in alloc; "{}{}{}", frame.0, text, frame.1)?;
-            let text = lines_of(alloc, text.as_str())?;
-            let found = answer_of(alloc, &object, text.as_bytes())?;
-            assert_eq!(rt; found.as_str(), answer, "{case}");
+            assert!(rt; answers_so(alloc, &object, text, frame, answer)?);
             tried = true;
         }
     }
@@ -200,28 +215,26 @@ fn the_first_bad_line_of_a_text_is_named(rt: HostRuntime) -> Result<(), Fail> {
     answers_hold(&rt, rt.alloc(), BANK, ("", ""), LINE_CASES)
 }
 
-const PRINTED: &str = "
-sc deposit withdraw;other;inserts;deletes;sums;harmless;unrelated;same;whole;apart 255;supplies 0;cascades 10;replaces 7;implied 31;
-is withdraw;
-pr withdraw deposit;sums;
-pl withdraw withdraw;
-";
+const PRINTED: [&str; 4] = [
+    "sc deposit withdraw;other;inserts;deletes;sums;harmless;unrelated;same;whole;apart 255;supplies 0;cascades 10;replaces 7;implied 31;",
+    "is withdraw;",
+    "pr withdraw deposit;sums;",
+    "pl withdraw withdraw;",
+];
+
+fn is_printed_as_it_stood(alloc: Global, object: &Object, text: &str) -> Result<bool, Fail> {
+    let text = framed(alloc, text, FRAME)?;
+    let (claim, derivation) = read_text(alloc, object, text.as_bytes())?;
+    let printed = print_text(alloc, object, &claim, &derivation)?;
+    Ok(printed.items() == text.as_bytes())
+}
 
 #[test]
 fn what_is_read_is_printed_as_it_stood(rt: HostRuntime) -> Result<(), Fail> {
     let object = read(rt.alloc(), BANK.as_bytes())?;
-    let mut printed = false;
-    for case in PRINTED.lines() {
-        if case.ends_with(';') {
-            let text = format!(in rt.alloc(); "{}{}{}", FRAME.0, case, FRAME.1)?;
-            let text = lines_of(rt.alloc(), text.as_str())?;
-            let (claim, derivation) = read_text(rt.alloc(), &object, text.as_bytes())?;
-            let found = print_text(rt.alloc(), &object, &claim, &derivation)?;
-            assert!(rt; found.items() == text.as_bytes());
-            printed = true;
-        }
+    for case in PRINTED {
+        assert!(rt; is_printed_as_it_stood(rt.alloc(), &object, case)?);
     }
-    assert!(rt; printed);
     Ok(())
 }
 
