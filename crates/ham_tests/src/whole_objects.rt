@@ -77,15 +77,16 @@ const NOT_YET: [&[u8]; 9] = [
     b"replicas 1\nrows 2 member\n",
 ];
 
-#[test]
-fn lines_of_no_built_shape_are_not_yet(rt: HostRuntime) -> Result<(), Fail> {
-    for schedule in NOT_YET {
-        let (exit, sink) = replay_of(rt.alloc(), STOCK, schedule, 1000)?;
-        assert_eq!(rt; exit, Exit::ScheduleRefused);
-        assert_eq!(rt;
-            sink.taken(),
-            b"replicas 1\nrefused line 2: not yet\n".as_slice()
-        );
+fn are_not_yet(rt: &impl Abort, alloc: Global, schedules: &[&[u8]]) -> Result<(), Fail> {
+    for schedule in schedules {
+        let (exit, sink) = replay_of(alloc, STOCK, schedule, 1000)?;
+        assert!(rt; exit == Exit::ScheduleRefused);
+        assert!(rt; sink.taken() == b"replicas 1\nrefused line 2: not yet\n".as_slice());
     }
     Ok(())
+}
+
+#[test]
+fn lines_of_no_built_shape_are_not_yet(rt: HostRuntime) -> Result<(), Fail> {
+    are_not_yet(&rt, rt.alloc(), &NOT_YET)
 }

@@ -4,7 +4,7 @@ use crate::fixtures::BANK;
 use ham_meaning::{Issued, Outcome};
 use ham_objfile::read;
 use ham_syntax::{Act, Args, Place};
-use ham_world::{Event, IssueRefusal, Note, StepRefusal, World};
+use ham_world::{Event, IssueRefusal, StepRefusal, World};
 use std::process::Abort;
 use std::test::Fail;
 
@@ -32,60 +32,64 @@ fn applied(number: u32) -> Issued {
     }
 }
 
+fn forbidden() -> Issued {
+    Issued::Impermissible(Outcome::Invariant(0))
+}
+
+/// An issue of the amount is answered so, and leaves this balance.
+fn is_answered(
+    rt: &impl Abort,
+    world: &mut World<'_>,
+    method: u8,
+    amount: u64,
+    answer: Issued,
+    balance: i128,
+) -> bool {
+    match world.step(issue(rt, 1, method, &[amount])) {
+        Ok(note) => note.replica == 1 && note.answer == answer && world.value(0, 0) == balance,
+        Err(_) => false,
+    }
+}
+
 #[test]
 fn each_issue_is_answered_by_the_balance(rt: HostRuntime) -> Result<(), Fail> {
     let bank = read(rt.alloc(), BANK)?;
     let mut world = World::new(rt.alloc(), &bank)?;
-    assert_eq!(rt; world.value(0, 0), 0);
-    assert_eq!(rt; world.object().methods().len(), 2);
-    let turns = [
-        (WITHDRAW, 1, Issued::Impermissible(Outcome::Invariant(0)), 0),
-        (DEPOSIT, 50, applied(1), 50),
-        (
-            WITHDRAW,
-            51,
-            Issued::Impermissible(Outcome::Invariant(0)),
-            50,
-        ),
-        (WITHDRAW, 20, applied(2), 30),
-        (WITHDRAW, 30, applied(3), 0),
-    ];
-    for (method, amount, answer, balance) in turns {
-        let note = Note {
-            replica: 1,
-            act: act(&rt, method, &[amount]),
-            answer,
-        };
-        assert_eq!(rt; world.step(issue(&rt, 1, method, &[amount])), Ok(note));
-        assert_eq!(rt; world.value(0, 0), balance);
+    assert!(rt; is_answered(&rt, &mut world, WITHDRAW, 1, forbidden(), 0));
+    assert!(rt; is_answered(&rt, &mut world, DEPOSIT, 50, applied(1), 50));
+    assert!(rt; is_answered(&rt, &mut world, WITHDRAW, 51, forbidden(), 50));
+    assert!(rt; is_answered(&rt, &mut world, WITHDRAW, 20, applied(2), 30));
+    assert!(rt; is_answered(&rt, &mut world, WITHDRAW, 30, applied(3), 0));
+    Ok(())
+}
+
+/// The event is refused for this reason, and the balance stays at 0.
+fn is_refused(world: &mut World<'_>, event: Event, refusal: StepRefusal) -> bool {
+    match world.step(event) {
+        Ok(_) => false,
+        Err(found) => found == refusal && world.value(0, 0) == 0,
     }
+}
+
+#[test]
+fn an_issue_of_no_replica_changes_nothing(rt: HostRuntime) -> Result<(), Fail> {
+    let bank = read(rt.alloc(), BANK)?;
+    let mut world = World::new(rt.alloc(), &bank)?;
+    let none = StepRefusal::NoSuchReplica;
+    assert!(rt; is_refused(&mut world, issue(&rt, 0, DEPOSIT, &[5]), none));
+    assert!(rt; is_refused(&mut world, issue(&rt, 2, 9, &[5]), none));
     Ok(())
 }
 
 #[test]
-fn a_refused_issue_changes_nothing(rt: HostRuntime) -> Result<(), Fail> {
+fn an_issue_that_fits_no_method_changes_nothing(rt: HostRuntime) -> Result<(), Fail> {
     let bank = read(rt.alloc(), BANK)?;
     let mut world = World::new(rt.alloc(), &bank)?;
-    let cases = [
-        (issue(&rt, 0, DEPOSIT, &[5]), StepRefusal::NoSuchReplica),
-        (issue(&rt, 2, 9, &[5]), StepRefusal::NoSuchReplica),
-        (
-            issue(&rt, 1, 2, &[5, 6]),
-            StepRefusal::Issue(IssueRefusal::UnknownMethod),
-        ),
-        (
-            issue(&rt, 1, DEPOSIT, &[5, 6]),
-            StepRefusal::Issue(IssueRefusal::BadArgs),
-        ),
-        (
-            issue(&rt, 1, DEPOSIT, &[4_294_967_296]),
-            StepRefusal::Issue(IssueRefusal::BadArgs),
-        ),
-    ];
-    for (event, refusal) in cases {
-        assert_eq!(rt; world.step(event), Err(refusal));
-        assert_eq!(rt; world.value(0, 0), 0);
-    }
+    let unknown = StepRefusal::Issue(IssueRefusal::UnknownMethod);
+    assert!(rt; is_refused(&mut world, issue(&rt, 1, 2, &[5, 6]), unknown));
+    let bad = StepRefusal::Issue(IssueRefusal::BadArgs);
+    assert!(rt; is_refused(&mut world, issue(&rt, 1, DEPOSIT, &[5, 6]), bad));
+    assert!(rt; is_refused(&mut world, issue(&rt, 1, DEPOSIT, &[4_294_967_296]), bad));
     Ok(())
 }
 
