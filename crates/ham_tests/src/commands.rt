@@ -1,4 +1,4 @@
-//! Each command but the replay, by its words, its object and its other file.
+//! Each command by its words, its object and its other file; of the replay its missing files.
 
 use crate::fixtures::{BANK, shelf_of, words_of};
 use ham_bytes::MemSink;
@@ -357,7 +357,13 @@ fn tables_writes_the_derived_plan(rt: HostRuntime) -> Result<(), Fail> {
     end_so(&rt, rt.alloc(), &TABLES)
 }
 
-const SHAPELESS: [&[&[u8]]; 16] = [
+const SHAPELESS: [&[&[u8]]; 22] = [
+    &[],
+    &[b""],
+    &[b"replay"],
+    &[b"replay", b"bank"],
+    &[b"replay", b"bank", b"plan", b"more"],
+    &[b"replay", b"bank", b"\xff"],
     &[b"normal"],
     &[b"normal", b"bank", b"plan"],
     &[b"check", b"bank"],
@@ -381,7 +387,9 @@ fn words_of_no_shape_give_the_usage_line(rt: HostRuntime) -> Result<(), Fail> {
     all_end_so(&rt, rt.alloc(), &SHAPELESS, Exit::Usage, USAGE)
 }
 
-const OF_ABSENT_FILES: [&[&[u8]]; 3] = [
+const OF_ABSENT_FILES: [&[&[u8]]; 5] = [
+    &[b"replay", b"absent", b"plan"],
+    &[b"replay", b"bank", b"absent"],
     &[b"derive", b"absent", b"is", b"nobody"],
     &[b"check", b"bank", b"absent"],
     &[b"tables", b"absent", b"3"],

@@ -6,6 +6,8 @@ use ham_objfile::read;
 use ham_replay::{Line, LineRefusal, ReplayEnd, read_line, replay};
 use ham_syntax::{Act, Args};
 use ham_world::Event;
+use std::alloc::Global;
+use std::process::Abort;
 use std::test::Fail;
 
 #[test]
@@ -27,28 +29,43 @@ fn a_line_is_read_with_the_names_of_the_object(rt: HostRuntime) -> Result<(), Fa
     Ok(())
 }
 
+fn ends_so(
+    rt: &impl Abort,
+    alloc: Global,
+    schedule: &[u8],
+    wanted: ReplayEnd,
+    text: &[u8],
+) -> Result<(), Fail> {
+    let object = read(alloc, BANK)?;
+    let mut sink = MemSink::new(alloc, 100, 100)?;
+    let end = replay(alloc, &object, schedule, &mut sink);
+    assert!(rt; end == wanted);
+    assert!(rt; sink.taken() == text);
+    Ok(())
+}
+
+#[test]
+fn a_replay_ends_with_its_schedule(rt: HostRuntime) -> Result<(), Fail> {
+    let text = b"replicas 1\nvalue 0\nend\n".as_slice();
+    ends_so(
+        &rt,
+        rt.alloc(),
+        b"replicas 1\nshow 1 balance",
+        ReplayEnd::Done,
+        text,
+    )
+}
+
 #[test]
 fn a_replay_names_the_line_that_it_refuses(rt: HostRuntime) -> Result<(), Fail> {
-    let object = read(rt.alloc(), BANK)?;
-    let mut sink = MemSink::new(rt.alloc(), 100, 100)?;
-    let end = replay(
-        rt.alloc(),
-        &object,
-        b"replicas 1\nshow 1 balance",
-        &mut sink,
-    );
-    assert_eq!(rt; end, ReplayEnd::Done);
-    assert_eq!(rt; sink.taken(), b"replicas 1\nvalue 0\nend\n".as_slice());
-    let mut sink = MemSink::new(rt.alloc(), 100, 100)?;
-    let end = replay(
-        rt.alloc(),
-        &object,
-        b"replicas 1\nissue 1 deposit\n",
-        &mut sink,
-    );
     let why = LineRefusal::BadArguments;
-    assert_eq!(rt; end, ReplayEnd::Refused { line: 2, why });
+    let refused = ReplayEnd::Refused { line: 2, why };
     let text = b"replicas 1\nrefused line 2: bad arguments\n".as_slice();
-    assert_eq!(rt; sink.taken(), text);
-    Ok(())
+    ends_so(
+        &rt,
+        rt.alloc(),
+        b"replicas 1\nissue 1 deposit\n",
+        refused,
+        text,
+    )
 }
