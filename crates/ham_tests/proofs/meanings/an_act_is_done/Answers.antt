@@ -1,5 +1,5 @@
 use Rattle.ham_tests.proofs.Small.{small}
-use Rattle.ham_tests.proofs.meanings.an_act_is_asked_for_and_done.Goals as goal
+use Rattle.ham_tests.proofs.meanings.an_act_is_done.Goals as goal
 
 pub apply-requires-clause-values : goal.apply-requires-clause-values
 apply-requires-clause-values g c = small c.in_ok-state.state c.in_ok-state.ensures
