@@ -4,7 +4,7 @@ use crate::fixtures::BANK;
 use ham_meaning::{Issued, Outcome};
 use ham_objfile::read;
 use ham_syntax::{Act, Args, Place};
-use ham_world::{Event, IssueRefusal, StepRefusal, World};
+use ham_world::{Event, IssueRefusal, Note, StepRefusal, World};
 use std::process::Abort;
 use std::test::Fail;
 
@@ -45,8 +45,13 @@ fn is_answered(
     answer: Issued,
     balance: i128,
 ) -> bool {
+    let wanted = Note {
+        replica: 1,
+        act: act(rt, method, &[amount]),
+        answer,
+    };
     match world.step(issue(rt, 1, method, &[amount])) {
-        Ok(note) => note.replica == 1 && note.answer == answer && world.value(0, 0) == balance,
+        Ok(note) => note == wanted && world.value(0, 0) == balance,
         Err(_) => false,
     }
 }
