@@ -1,0 +1,8 @@
+mod Settling
+mod FirstFault
+mod Walked
+pub mod Parts
+mod Columns
+mod Ids
+mod NoFault
+mod Soundness

@@ -1,0 +1,8 @@
+use Rattle.std.proofs.Common.{◌≤◌}
+use Rattle.ham_syntax.specs.declared.object.Counter.{Counter}
+use Rattle.ham_check.specs.Faults.{counter_faults}
+use Rattle.ham_check.proofs.Walked.{IsWalked}
+use Rattle.ham_check.proofs.check.check_counters.Given as goal
+
+abbrev pub invariant-loop-i : goal.invariant-loop-i
+invariant-loop-i l = record { few : l.i ≤ 16; walked : IsWalked (counter_faults l.fn.relations) (λ (c : Counter). c) l.raw l.i l.counters }

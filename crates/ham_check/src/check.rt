@@ -1,0 +1,338 @@
+//! The check of a raw object: its sections, entries and parts in order, up to the first fault.
+
+ghost use Rattle.std.specs.Prelude.{◌≡◌, ◌≢◌, ◌<◌, ◌≤◌, [], length, map, IfOk};
+ghost use Rattle.std.specs.List.{AllByRecursion};
+ghost use Rattle.ham_syntax.specs.Checked.{IsRelation};
+ghost use Rattle.ham_check.specs.Faults as faults;
+ghost use Rattle.ham_check.specs.Resolved as resolved;
+
+use crate::entry::{check_counter, check_method, resolve_relation_entry};
+use crate::form::resolve_invariant;
+use crate::part::{resolve_effect, resolve_guard};
+use crate::raw::{
+    CheckFault, Ill, IllKind, IllPlace, Raw, RawInvariant, RawMethod, RawPart, RawRelation,
+};
+use ham_syntax::limits::{
+    MAX_COUNTERS, MAX_INVARIANTS, MAX_METHODS, MAX_PARAMS, MAX_PARTS, MAX_RELATIONS,
+};
+use ham_syntax::{Counter, Effect, Guard, Invariant, Items, Method, Object, Param, Relation};
+use std::alloc::Global;
+
+/// The sections of a raw object, as places number them.
+const RELATIONS: u8 = 1;
+
+const COUNTERS: u8 = 2;
+
+const INVARIANTS: u8 = 3;
+
+const METHODS: u8 = 4;
+
+fn placed<T>(at: IllPlace, outcome: Result<T, IllKind>) -> Result<T, CheckFault>
+    ensures { result ≡ faults.placed at outcome }
+{
+    match outcome {
+        Ok(answer) => Ok(answer),
+        Err(kind) => Err(CheckFault::Ill(Ill { kind, at })),
+    }
+}
+
+fn relation_entry(before: &[RawRelation], relation: &RawRelation) -> Result<Relation, CheckFault>
+    requires { length before.now ≤ MAX_RELATIONS }
+    ensures checks { faults.Checks (faults.relation_faults before.now relation.now) (faults.relation_of relation.now) result }
+    ensures room { IfOk result (λ _. length before.now ≢ MAX_RELATIONS) }
+{
+    let at = IllPlace {
+        section: RELATIONS,
+        entry: before.len() as u32 + 1,
+        part: 0,
+    };
+    placed(at, resolve_relation_entry(before, relation))
+}
+
+fn resolve_relations(alloc: Global, raw: &[RawRelation]) -> Result<Items<Relation>, CheckFault>
+    ensures checks { faults.Checks (faults.entry_faults faults.relation_faults [] raw.now) (map faults.relation_of raw.now) result }
+    ensures few { IfOk result (λ relations. length relations ≤ MAX_RELATIONS) }
+    ensures each { IfOk result (λ relations. AllByRecursion IsRelation relations) }
+{
+    let mut relations = Items::new(alloc);
+    for (i, relation) in raw.iter().enumerate() {
+        relations.push(relation_entry(&raw[..i], relation)?)?;
+    }
+    Ok(relations)
+}
+
+fn counter_entry(
+    relations: &[Relation],
+    before: &[Counter],
+    counter: &Counter,
+) -> Result<Counter, CheckFault>
+    requires { length before.now ≤ MAX_COUNTERS }
+    ensures checks { faults.Checks (faults.counter_faults relations.now before.now counter.now) counter.now result }
+    ensures room { IfOk result (λ _. length before.now ≢ MAX_COUNTERS) }
+{
+    let at = IllPlace {
+        section: COUNTERS,
+        entry: before.len() as u32 + 1,
+        part: 0,
+    };
+    placed(at, check_counter(relations, before, counter))?;
+    Ok(*counter)
+}
+
+fn check_counters(
+    alloc: Global,
+    relations: &[Relation],
+    raw: &[Counter],
+) -> Result<Items<Counter>, CheckFault>
+    ensures checks { faults.Checks (faults.entry_faults (faults.counter_faults relations.now) [] raw.now) raw.now result }
+    ensures few { IfOk result (λ counters. length counters ≤ MAX_COUNTERS) }
+{
+    let mut counters = Items::new(alloc);
+    for (i, counter) in raw.iter().enumerate() {
+        counters.push(counter_entry(relations, &raw[..i], counter)?)?;
+    }
+    Ok(counters)
+}
+
+fn invariant_entry(
+    relations: &[Relation],
+    counters: &[Counter],
+    before: &[RawInvariant],
+    invariant: &RawInvariant,
+) -> Result<Invariant, CheckFault>
+    requires relations { length relations.now ≤ MAX_RELATIONS }
+    requires each { AllByRecursion IsRelation relations.now }
+    requires counters { length counters.now ≤ MAX_COUNTERS }
+    requires before { length before.now ≤ MAX_INVARIANTS }
+    ensures checks { faults.Checks
+        (faults.invariant_faults relations.now counters.now before.now invariant.now)
+        (resolved.resolved_invariant relations.now counters.now invariant.now)
+        result }
+    ensures room { IfOk result (λ _. length before.now ≢ MAX_INVARIANTS) }
+{
+    let at = IllPlace {
+        section: INVARIANTS,
+        entry: before.len() as u32 + 1,
+        part: 0,
+    };
+    placed(
+        at,
+        resolve_invariant(relations, counters, before, invariant),
+    )
+}
+
+fn resolve_invariants(
+    alloc: Global,
+    relations: &[Relation],
+    counters: &[Counter],
+    raw: &[RawInvariant],
+) -> Result<Items<Invariant>, CheckFault>
+    requires relations { length relations.now ≤ MAX_RELATIONS }
+    requires each { AllByRecursion IsRelation relations.now }
+    requires counters { length counters.now ≤ MAX_COUNTERS }
+    ensures { faults.Checks
+        (faults.entry_faults (faults.invariant_faults relations.now counters.now) [] raw.now)
+        (map (resolved.resolved_invariant relations.now counters.now) raw.now)
+        result }
+{
+    let mut invariants = Items::new(alloc);
+    for (i, invariant) in raw.iter().enumerate() {
+        invariants.push(invariant_entry(relations, counters, &raw[..i], invariant)?)?;
+    }
+    Ok(invariants)
+}
+
+fn guard_entry(
+    relations: &[Relation],
+    counters: &[Counter],
+    entry: u32,
+    params: &[Param],
+    before: &[RawPart],
+    part: &RawPart,
+) -> Result<Guard, CheckFault>
+    requires relations { length relations.now ≤ MAX_RELATIONS }
+    requires each { AllByRecursion IsRelation relations.now }
+    requires counters { length counters.now ≤ MAX_COUNTERS }
+    requires params { length params.now ≤ MAX_PARAMS }
+    requires before { length before.now ≤ MAX_PARTS }
+    ensures { faults.Checks
+        (faults.guard_faults relations.now counters.now entry params.now before.now part.now)
+        (resolved.resolved_guard relations.now counters.now params.now part.now)
+        result }
+{
+    let at = IllPlace {
+        section: METHODS,
+        entry,
+        part: before.len() as u8 + 1,
+    };
+    placed(at, resolve_guard(relations, counters, params, part))
+}
+
+fn resolve_guards(
+    alloc: Global,
+    relations: &[Relation],
+    counters: &[Counter],
+    entry: u32,
+    params: &[Param],
+    raw: &[RawPart],
+) -> Result<Items<Guard>, CheckFault>
+    requires relations { length relations.now ≤ MAX_RELATIONS }
+    requires each { AllByRecursion IsRelation relations.now }
+    requires counters { length counters.now ≤ MAX_COUNTERS }
+    requires params { length params.now ≤ MAX_PARAMS }
+    requires raw { length raw.now ≤ MAX_PARTS }
+    ensures { faults.Checks
+        (faults.entry_faults (faults.guard_faults relations.now counters.now entry params.now) [] raw.now)
+        (map (resolved.resolved_guard relations.now counters.now params.now) raw.now)
+        result }
+{
+    let mut guards = Items::new(alloc);
+    for (i, part) in raw.iter().enumerate() {
+        guards.push(guard_entry(relations, counters, entry, params, &raw[..i], part)?)?;
+    }
+    Ok(guards)
+}
+
+fn effect_entry(
+    relations: &[Relation],
+    counters: &[Counter],
+    entry: u32,
+    params: &[Param],
+    before: &[RawPart],
+    part: &RawPart,
+) -> Result<Effect, CheckFault>
+    requires relations { length relations.now ≤ MAX_RELATIONS }
+    requires each { AllByRecursion IsRelation relations.now }
+    requires counters { length counters.now ≤ MAX_COUNTERS }
+    requires params { length params.now ≤ MAX_PARAMS }
+    requires before { length before.now ≤ MAX_PARTS }
+    ensures { faults.Checks
+        (faults.effect_faults relations.now counters.now entry params.now before.now part.now)
+        (resolved.resolved_effect relations.now counters.now params.now part.now)
+        result }
+{
+    let at = IllPlace {
+        section: METHODS,
+        entry,
+        part: (before.len() + MAX_PARTS) as u8 + 1,
+    };
+    placed(at, resolve_effect(relations, counters, params, part))
+}
+
+fn resolve_effects(
+    alloc: Global,
+    relations: &[Relation],
+    counters: &[Counter],
+    entry: u32,
+    params: &[Param],
+    raw: &[RawPart],
+) -> Result<Items<Effect>, CheckFault>
+    requires relations { length relations.now ≤ MAX_RELATIONS }
+    requires each { AllByRecursion IsRelation relations.now }
+    requires counters { length counters.now ≤ MAX_COUNTERS }
+    requires params { length params.now ≤ MAX_PARAMS }
+    requires raw { length raw.now ≤ MAX_PARTS }
+    ensures { faults.Checks
+        (faults.entry_faults (faults.effect_faults relations.now counters.now entry params.now) [] raw.now)
+        (map (resolved.resolved_effect relations.now counters.now params.now) raw.now)
+        result }
+{
+    let mut effects = Items::new(alloc);
+    for (i, part) in raw.iter().enumerate() {
+        effects.push(effect_entry(relations, counters, entry, params, &raw[..i], part)?)?;
+    }
+    Ok(effects)
+}
+
+fn method_entry(
+    alloc: Global,
+    relations: &[Relation],
+    counters: &[Counter],
+    before: &[RawMethod],
+    raw: &RawMethod,
+) -> Result<Method, CheckFault>
+    requires relations { length relations.now ≤ MAX_RELATIONS }
+    requires each { AllByRecursion IsRelation relations.now }
+    requires counters { length counters.now ≤ MAX_COUNTERS }
+    requires before { length before.now ≤ MAX_METHODS }
+    ensures checks { faults.Checks
+        (faults.method_faults relations.now counters.now before.now raw.now)
+        (resolved.resolved_method relations.now counters.now raw.now)
+        result }
+    ensures room { IfOk result (λ _. length before.now ≢ MAX_METHODS) }
+{
+    let entry = before.len() as u32 + 1;
+    let at = IllPlace {
+        section: METHODS,
+        entry,
+        part: 0,
+    };
+    placed(at, check_method(before, raw))?;
+    let params = raw.params.copy()?;
+    let guards = resolve_guards(
+        alloc,
+        relations,
+        counters,
+        entry,
+        params.items(),
+        raw.guards.items(),
+    )?;
+    let effects = resolve_effects(
+        alloc,
+        relations,
+        counters,
+        entry,
+        params.items(),
+        raw.effects.items(),
+    )?;
+    Ok(Method {
+        name: raw.name,
+        params,
+        guards,
+        effects,
+    })
+}
+
+fn resolve_methods(
+    alloc: Global,
+    relations: &[Relation],
+    counters: &[Counter],
+    raw: &[RawMethod],
+) -> Result<Items<Method>, CheckFault>
+    requires relations { length relations.now ≤ MAX_RELATIONS }
+    requires each { AllByRecursion IsRelation relations.now }
+    requires counters { length counters.now ≤ MAX_COUNTERS }
+    ensures { faults.Checks
+        (faults.entry_faults (faults.method_faults relations.now counters.now) [] raw.now)
+        (map (resolved.resolved_method relations.now counters.now) raw.now)
+        result }
+{
+    let mut methods = Items::new(alloc);
+    for (i, method) in raw.iter().enumerate() {
+        methods.push(method_entry(alloc, relations, counters, &raw[..i], method)?)?;
+    }
+    Ok(methods)
+}
+
+/// Checks a raw object and resolves its names. `Ill` has the first fault. Relations are tested first, then counters,
+/// invariants and methods: each beside those before it, then its guards, then its effects, and the terms of each from
+/// the left.
+pub fn check_object(alloc: Global, raw: &Raw) -> Result<Object, CheckFault>
+    ensures { faults.Checks (faults.faults raw.now) (resolved.resolved raw.now) result }
+{
+    let relations = resolve_relations(alloc, raw.relations.items())?;
+    let counters = check_counters(alloc, relations.items(), raw.counters.items())?;
+    let invariants = resolve_invariants(
+        alloc,
+        relations.items(),
+        counters.items(),
+        raw.invariants.items(),
+    )?;
+    let methods = resolve_methods(
+        alloc,
+        relations.items(),
+        counters.items(),
+        raw.methods.items(),
+    )?;
+    Ok(Object::of_parts(alloc, relations, counters, invariants, methods)?)
+}

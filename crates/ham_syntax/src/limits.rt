@@ -1,0 +1,44 @@
+//! The limits of objects, plans and runs: each stands here once, and contracts cite it by its name. A second version of
+//! objects will have larger amounts and longer lanes: what depends on a version is named so.
+
+/// The most bytes of a name.
+pub const MAX_NAME: usize = 32;
+
+/// The most relations of an object.
+pub const MAX_RELATIONS: usize = 16;
+
+/// The most columns of a relation.
+pub const MAX_COLUMNS: usize = 4;
+
+/// The most counters of an object.
+pub const MAX_COUNTERS: usize = 16;
+
+/// The most invariants of an object.
+pub const MAX_INVARIANTS: usize = 32;
+
+/// The most methods of an object.
+pub const MAX_METHODS: usize = 32;
+
+/// The most parameters of a method, and arguments of an act.
+pub const MAX_PARAMS: usize = 6;
+
+/// The most guards, and the most effects, of a method.
+pub const MAX_PARTS: usize = 8;
+
+/// The greatest amount, of an argument and of a constant. It depends on the object's version.
+pub const MAX_AMOUNT: u64 = 4_294_967_295;
+
+/// The most replicas that keep an object.
+pub const MAX_REPLICAS: usize = 8;
+
+/// The most lanes of a plan.
+pub const MAX_LANES: usize = 256;
+
+/// The most slots of a plan, and dependency counts of a call.
+pub const MAX_SLOTS: usize = 256;
+
+/// The most calls of a lane. It depends on the object's version.
+pub const MAX_LANE_CALLS: usize = 65_536;
+
+/// The most requests that a replica makes to a group. It depends on the object's version.
+pub const MAX_REQUESTS: usize = 65_536;
