@@ -1,5 +1,5 @@
 -- The bank is checked, its acts are changes of the balance, and its plan is sound.
-use Rattle.std.proofs.Common.{◌≡◌, ◌⊎◌, ℕ, zero, suc, ℤ, pos, neg_ℤ, ◌+ℤ◌, ◌≤ℤ◌, Bool, true, false, cond, ◌&&◌, List, [], ◌∷◌, None, map, length, ◌≤◌, refl, sym, ap, subst, ◌∙◌, inl, inr, arith}
+use Rattle.std.proofs.Common.{◌≡◌, ◌⊎◌, ℕ, zero, suc, ℤ, pos, neg_ℤ, ◌+ℤ◌, ◌≤ℤ◌, Bool, true, false, cond, ◌&&◌, List, [], ◌∷◌, None, map, length, ◌≤◌, refl, sym, ap, subst, ◌∙◌, inl, inr, lit<, arith}
 use Rattle.std.specs.List.{AllByRecursion, IsDistinct}
 use Rattle.std.specs.Cmp.Lexicographic.{pointwise}
 use Rattle.std.specs.Prelude.{nat_eq, ◌==◌, IsTrue, if◌then◌else◌}
@@ -189,4 +189,13 @@ bank_checked = record {
     a_method _ (omega arith) (tt, tt) refl (omega arith) (on_balance _ (omega arith, refl), tt),
     (a_method _ (omega arith) (tt, tt) refl (omega arith) (on_balance _ (omega arith, refl), tt), tt),
   );
+  typed = record {
+    relations = tt;
+    counters = (refl, tt);
+    invariants = (lit< tt, tt);
+    methods = (
+      record { named = refl; params = (refl, tt); guards = tt; effects = ((tt, tt), tt) },
+      (record { named = refl; params = (refl, tt); guards = tt; effects = ((tt, tt), tt) }, tt),
+    );
+  };
 }
