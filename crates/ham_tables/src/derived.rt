@@ -3,8 +3,8 @@
 ghost use Rattle.std.specs.Prelude.{◌≡◌, ◌≢◌, ℕ, ◌<◌, ◌≤◌, false, length};
 ghost use Rattle.ham_syntax.specs.Checked.{IsChecked};
 ghost use Rattle.ham_meaning.specs.OfObjects.{meaning};
-ghost use Rattle.ham_plan.specs.Executions.{IsSound};
-ghost use Rattle.ham_plan.specs.Constrained.{constraints_of};
+ghost use Rattle.ham_laws.specs.Executions.{IsSound};
+ghost use Rattle.ham_laws.specs.Constrained.{constraints_of};
 ghost use Rattle.ham_plan.specs.Grids.{cell};
 ghost use Rattle.ham_tables.specs.DerivedPlans as derived_plans;
 
