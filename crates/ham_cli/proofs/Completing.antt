@@ -9,7 +9,7 @@ use Rattle.ham_rules.specs.declared.claim.Claim.{Claim}
 use Rattle.ham_derive.specs.Texts.{text_of}
 use Rattle.ham_replay.specs.Replays.{played}
 use Rattle.ham_tables.specs.TablesText.{tables_text}
-use Rattle.ham_objfile.specs.Written.{plain_of}
+use Rattle.ham_plain.specs.Written.{plain_of}
 use Rattle.ham_cli.specs.declared.exit.Exit.{Exit}
 use Rattle.ham_cli.specs.declared.exit.Exit.TheVariants as exits
 use Rattle.ham_cli.specs.declared.named.NamedClaim.{NamedClaim}

@@ -5,12 +5,12 @@ use Rattle.ham_syntax.specs.Objects.{Schema}
 use Rattle.ham_bytes.specs.Outside.{file_of, Fetches, FetchesFrom}
 use Rattle.ham_bytes.specs.declared.shelf.File.{File}
 use Rattle.ham_bytes.specs.declared.shelf.FetchFault.TheVariants as fetches
-use Rattle.ham_objfile.specs.declared.fault.FileFault.{FileFault}
-use Rattle.ham_objfile.specs.declared.fault.FileFault.TheVariants as fault
+use Rattle.ham_forms.specs.declared.fault.FileFault.{FileFault}
+use Rattle.ham_forms.specs.declared.fault.FileFault.TheVariants as fault
 use Rattle.ham_objfile.specs.Texts.{Answers}
 use Rattle.ham_rules.specs.declared.claim.Claim.{Claim}
 use Rattle.ham_rules.specs.declared.claim.Reason.{Reason}
-use Rattle.ham_derive.specs.Derivations.{IsGood}
+use Rattle.ham_rules.specs.Derivations.{IsGood}
 use Rattle.ham_derive.specs.Texts.{text_of}
 use Rattle.ham_analyse.specs.Analysis.{AreFirst, IsFirstWithout}
 use Rattle.ham_plan.specs.Plans.{Plan}

@@ -2,7 +2,7 @@
 use Rattle.std.proofs.Common.{◌≡◌, ℕ, ◌<◌, List, length, Option, Some, Result, Ok, Err, ◌⊎◌, inl, inr, refl, sym, subst, ◌∙◌, arith}
 use Rattle.ham_syntax.specs.Objects.{Schema}
 use Rattle.ham_bytes.specs.declared.shelf.File.{File}
-use Rattle.ham_objfile.specs.declared.fault.FileFault.{FileFault}
+use Rattle.ham_forms.specs.declared.fault.FileFault.{FileFault}
 use Rattle.ham_objfile.specs.Texts.{IsText, IsAnsweredOnce}
 use Rattle.ham_cli.specs.declared.exit.Exit.{Exit}
 use Rattle.ham_cli.specs.declared.exit.Exit.TheVariants as exits

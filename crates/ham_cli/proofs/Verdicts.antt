@@ -4,8 +4,8 @@ use Rattle.ham_syntax.specs.Objects.{Schema}
 use Rattle.ham_rules.specs.declared.claim.Claim.{Claim}
 use Rattle.ham_rules.specs.declared.claim.Reason.{Reason}
 use Rattle.ham_rules.specs.Claims.{ClaimHolds}
-use Rattle.ham_derive.specs.Derivations.{IsGood, IsFirstGap}
-use Rattle.ham_derive.specs.Texts.{IsDerivationText, TextsAreOfOne, IsBadLine, pieces_of}
+use Rattle.ham_rules.specs.Derivations.{IsGood, IsFirstGap}
+use Rattle.ham_derive.specs.Texts.{IsDerivationText, TextsAreOfOne, IsBadLine}
 use Rattle.ham_cli.specs.declared.refusal.Refusal.TheVariants as refusals
 use Rattle.ham_cli.specs.CheckEnds.{IsGoodText, IsProof, IsRefused}
 
@@ -22,5 +22,5 @@ gapped o bytes claim reasons number one text gap bad = record {
   none = λ (g : IsGoodText o bytes). bad (same_good o g.claim claim g.reasons reasons (one g.claim claim g.reasons reasons bytes g.text text) g.good);
 }
 
-pub ill_spelled : (o : Schema) (bytes : List ℕ) (line : ℕ) → IsBadLine o (pieces_of bytes) line → ((claim : Claim) (reasons : List Reason) → IsDerivationText o claim reasons bytes → ⊥) → IsRefused o bytes (refusals.BadLine line)
+pub ill_spelled : (o : Schema) (bytes : List ℕ) (line : ℕ) → IsBadLine o bytes line → ((claim : Claim) (reasons : List Reason) → IsDerivationText o claim reasons bytes → ⊥) → IsRefused o bytes (refusals.BadLine line)
 ill_spelled o bytes line bad none = record { cause = bad; none = λ (g : IsGoodText o bytes). none g.claim g.reasons g.text }

@@ -8,8 +8,8 @@ use Rattle.ham_bytes.specs.declared.shelf.File.{File}
 use Rattle.ham_rules.specs.declared.claim.Claim.{Claim}
 use Rattle.ham_rules.specs.declared.claim.Reason.{Reason}
 use Rattle.ham_rules.specs.Claims.{ClaimHolds}
-use Rattle.ham_derive.specs.Derivations.{IsGood, IsFirstGap}
-use Rattle.ham_derive.specs.Texts.{IsDerivationText, IsBadLine, pieces_of}
+use Rattle.ham_rules.specs.Derivations.{IsGood, IsFirstGap}
+use Rattle.ham_derive.specs.Texts.{IsDerivationText, IsBadLine}
 use Rattle.ham_cli.specs.declared.exit.Exit.{Exit}
 use Rattle.ham_cli.specs.declared.exit.Exit.TheVariants as exits
 use Rattle.ham_cli.specs.declared.refusal.Refusal.{Refusal}
@@ -38,7 +38,7 @@ pub record HasGap (o : Schema) (bytes : List ℕ) (number : ℕ) : Type 0 where
   pub gap : IsFirstGap o claim reasons number
 
 abbrev pub IsCause : Schema → List ℕ → Refusal → Type 0
-IsCause o bytes (refusals.BadLine line) = IsBadLine o (pieces_of bytes) line
+IsCause o bytes (refusals.BadLine line) = IsBadLine o bytes line
 IsCause o bytes (refusals.Obligation number) = HasGap o bytes number
 IsCause o bytes refusals.UnknownName = ⊥
 

@@ -7,7 +7,7 @@ use Rattle.ham_bytes.specs.declared.shelf.File.{File}
 use Rattle.ham_rules.specs.declared.claim.Claim.{Claim}
 use Rattle.ham_rules.specs.declared.claim.Claim.TheVariants as claims
 use Rattle.ham_rules.specs.declared.claim.Reason.{Reason}
-use Rattle.ham_derive.specs.Derivations.{IsGood}
+use Rattle.ham_rules.specs.Derivations.{IsGood}
 use Rattle.ham_derive.specs.Texts.{text_of}
 use Rattle.ham_analyse.specs.Analysis.{AreFirst, IsFirstWithout}
 use Rattle.ham_cli.specs.declared.exit.Exit.{Exit}

@@ -5,8 +5,8 @@ use Rattle.ham_bytes.specs.Causes.{Rose}
 use Rattle.ham_bytes.specs.Outside.{file_of}
 use Rattle.ham_bytes.specs.declared.shelf.File.{File}
 use Rattle.ham_bytes.specs.declared.shelf.FetchFault.TheVariants as fetches
-use Rattle.ham_objfile.specs.declared.fault.FileFault.{FileFault}
-use Rattle.ham_objfile.specs.declared.fault.FileFault.TheVariants as faults
+use Rattle.ham_forms.specs.declared.fault.FileFault.{FileFault}
+use Rattle.ham_forms.specs.declared.fault.FileFault.TheVariants as faults
 use Rattle.ham_objfile.specs.Texts.{IsText, IsFirstFault}
 use Rattle.ham_cli.specs.declared.objects.Missing.{Missing}
 use Rattle.ham_cli.specs.declared.objects.Missing.TheVariants as missing

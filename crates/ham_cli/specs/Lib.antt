@@ -13,9 +13,9 @@ pub use Rattle.ham_syntax.specs.Objects
 pub use Rattle.ham_bytes.specs.Outside
 pub use Rattle.ham_bytes.specs.Causes
 pub use Rattle.ham_objfile.specs.Texts
-pub use Rattle.ham_objfile.specs.Written
-pub use Rattle.ham_objfile.specs.FaultTexts
-pub use Rattle.ham_derive.specs.Derivations
+pub use Rattle.ham_plain.specs.Written
+pub use Rattle.ham_forms.specs.FaultTexts
+pub use Rattle.ham_rules.specs.Derivations
 pub use Rattle.ham_derive.specs.Texts as DerivationTexts
 pub use Rattle.ham_analyse.specs.Analysis
 pub use Rattle.ham_tables.specs.DerivedPlans

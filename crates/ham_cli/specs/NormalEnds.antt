@@ -1,7 +1,7 @@
 -- How `normal OBJECT` ends: it writes the object's plain form.
 use Rattle.std.specs.Prelude.{ℕ, List, Option}
 use Rattle.ham_bytes.specs.declared.shelf.File.{File}
-use Rattle.ham_objfile.specs.Written.{plain_of}
+use Rattle.ham_plain.specs.Written.{plain_of}
 use Rattle.ham_cli.specs.declared.exit.Exit.{Exit}
 use Rattle.ham_cli.specs.declared.exit.Exit.TheVariants as exits
 use Rattle.ham_cli.specs.Writes.{PutsMade, EndsFrom}

@@ -2,8 +2,8 @@
 use Rattle.std.specs.Prelude.{◌≡◌, ◌⊎◌, ℕ, List, [], ◌∷◌, ◌++◌, Option, codes}
 use Rattle.ham_bytes.specs.Outside.{TakesWhole, TakesSome}
 use Rattle.ham_bytes.specs.declared.shelf.File.{File}
-use Rattle.ham_objfile.specs.declared.fault.FileFault.{FileFault}
-use Rattle.ham_objfile.specs.FaultTexts.{fault_text}
+use Rattle.ham_forms.specs.declared.fault.FileFault.{FileFault}
+use Rattle.ham_forms.specs.FaultTexts.{fault_text}
 use Rattle.ham_syntax.specs.Objects.{Schema}
 use Rattle.ham_cli.specs.declared.exit.Exit.{Exit}
 use Rattle.ham_cli.specs.declared.exit.Exit.TheVariants as exits
