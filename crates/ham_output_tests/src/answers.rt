@@ -1,6 +1,6 @@
 //! Each public function once, with the texts that are meant.
 
-use super::*;
+use ham_lines::{Answer, split, text};
 use ham_meaning::{Issued, Outcome};
 use ham_state::Row;
 use ham_syntax::{Items, NoMemory, Place};
