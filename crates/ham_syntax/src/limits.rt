@@ -42,3 +42,12 @@ pub const MAX_LANE_CALLS: usize = 65_536;
 
 /// The most requests that a replica makes to a group. It depends on the object's version.
 pub const MAX_REQUESTS: usize = 65_536;
+
+/// The most groups of a plan: each has a method of its own.
+pub const MAX_GROUPS: usize = 32;
+
+/// The bytes of an object's digest.
+pub const DIGEST_BYTES: usize = 32;
+
+/// The most bytes of a frame: those of a call with all its arguments and counts.
+pub const MAX_FRAME_BYTES: usize = 10 + 8 * MAX_PARAMS + 4 * MAX_SLOTS;
