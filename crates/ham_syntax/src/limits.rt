@@ -42,3 +42,6 @@ pub const MAX_LANE_CALLS: usize = 65_536;
 
 /// The most requests that a replica makes to a group. It depends on the object's version.
 pub const MAX_REQUESTS: usize = 65_536;
+
+/// The most calls of a lane, and the most requests to a group, that a tick sends to a peer.
+pub const MAX_DUE: usize = 16;
