@@ -9,8 +9,8 @@ use Rattle.ham_meaning.specs.Relations.{IsActOf, StateCommute, InvariantSufficie
 use Rattle.ham_meaning.specs.OfObjects.{meaning}
 use Rattle.ham_rules.specs.declared.claim.Claim.{Claim}
 use Rattle.ham_rules.specs.declared.claim.Claim.TheVariants.{Sc, Is, Pr, Pl}
-use Rattle.ham_analyse.specs.Analysis.{is_derivable}
-use Rattle.ham_analyse.proofs.Derived.{computed-holds}
+use Rattle.ham_rules.specs.Derivations.{is_derivable}
+use Rattle.ham_rules.proofs.Derived.{computed-holds}
 use Rattle.ham_laws.specs.Executions.{IsSound}
 use Rattle.ham_plan.specs.Plans.{Plan, IsPlan, among, conflicts, depends_on}
 use Rattle.ham_laws.specs.Constrained.{constraints_of}

@@ -8,9 +8,8 @@ ghost use Rattle.ham_laws.specs.Constrained.{constraints_of};
 ghost use Rattle.ham_plan.specs.Grids.{cell};
 ghost use Rattle.ham_tables.specs.DerivedPlans as derived_plans;
 
-use ham_analyse::derivable;
 use ham_plan::{Grid, Plan};
-use ham_rules::Claim;
+use ham_rules::{Claim, derivable};
 use ham_syntax::Object;
 
 fn stays(object: &Object, m: u8, n: u8) -> bool
