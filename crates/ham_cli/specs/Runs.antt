@@ -9,7 +9,8 @@ use Rattle.ham_replay.specs.Replays.{played}
 use Rattle.ham_cli.specs.declared.exit.Exit.{Exit}
 use Rattle.ham_cli.specs.declared.exit.Exit.TheVariants as exits
 use Rattle.ham_cli.specs.Commands.{Asked, Replays, Normalizes, Checks, Derives, Tabulates, asked}
-use Rattle.ham_cli.specs.Files.{HasFile, HasObject, max_object, max_schedule}
+use Rattle.ham_syntax.specs.declared.limits.TheConstants.{MAX_OBJECT_BYTES, MAX_SCHEDULE_BYTES}
+use Rattle.ham_cli.specs.Files.{HasFile, HasObject}
 use Rattle.ham_cli.specs.Writes.{Puts}
 use Rattle.ham_cli.specs.ReplayEnds.{EndsReplay}
 use Rattle.ham_cli.specs.NormalEnds.{EndsNormal}
@@ -40,10 +41,10 @@ Ends words (Some files) before now exit = EndsAs (asked words) files before now 
 -- a good derivation, methods of these names
 abbrev pub IsAllowed : Asked → List File → Type 0
 IsAllowed (Replays object schedule) files =
-    (o : Schema) × HasObject files object o × ((s : List ℕ) × HasFile files schedule max_schedule s × ((played o s).refused ≡ None))
+    (o : Schema) × HasObject files object o × ((s : List ℕ) × HasFile files schedule MAX_SCHEDULE_BYTES s × ((played o s).refused ≡ None))
 IsAllowed (Normalizes object) files = (o : Schema) × HasObject files object o
 IsAllowed (Checks object file) files =
-    (o : Schema) × HasObject files object o × ((bytes : List ℕ) × HasFile files file max_object bytes × IsGoodText o bytes)
+    (o : Schema) × HasObject files object o × ((bytes : List ℕ) × HasFile files file MAX_OBJECT_BYTES bytes × IsGoodText o bytes)
 IsAllowed (Derives object claim) files = (o : Schema) × HasObject files object o × ((c : Claim) × (claim_named o claim ≡ Some c))
 IsAllowed (Tabulates object replicas) files = (o : Schema) × HasObject files object o
 
