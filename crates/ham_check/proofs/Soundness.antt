@@ -18,6 +18,7 @@ use Rattle.ham_check.specs.declared.raw.Raw.{Raw}
 use Rattle.ham_check.specs.declared.raw.Ill.{Ill}
 use Rattle.ham_check.specs.declared.raw.IllKind.TheVariants.{TooMany, TwiceNamed, BadArity, WrongKind}
 use Rattle.ham_syntax.specs.Checked.{IsRelation, IsNewName, IsGuard, IsEffect, IsInvariant, IsMethod, IsChecked}
+use Rattle.ham_syntax.specs.Typed.{IsTyped}
 use Rattle.ham_check.specs.Faults.{Checks, faults, fault_if, entry_faults, relation_of, relation_kinds, relation_faults, counter_faults, invariant_faults, form_kinds, method_faults, method_kinds, shape_kinds, parts_faults, guard_faults, effect_faults, verb_kinds, is_guard_verb, is_effect_verb, has_twins}
 use Rattle.ham_check.specs.Resolved.{resolved, resolved_guard, resolved_effect, resolved_invariant, resolved_method}
 use Rattle.ham_check.proofs.Parts.{append-none, map-none, fault_if-none, not-false, or-none, AllByRecursion-push}
@@ -163,8 +164,8 @@ resolved-names : (rs : List Relation) (cs : List Counter) (ms : List RawMethod) 
 resolved-names rs cs [] = refl
 resolved-names rs cs (m ∷ ms) = ap (λ (names : List (List ℕ)). m.name ∷ names) (resolved-names rs cs ms)
 
-pub IsChecked-resolved : (raw : Raw) → faults raw ≡ [] → IsChecked (resolved raw)
-IsChecked-resolved raw none =
+pub IsChecked-resolved : (raw : Raw) → IsTyped (resolved raw) → faults raw ≡ [] → IsChecked (resolved raw)
+IsChecked-resolved raw typed none =
     let rs = map relation_of raw.relations in
     let cs = raw.counters in
     let methods_part = entry_faults (method_faults rs cs) [] raw.methods in
@@ -186,6 +187,7 @@ IsChecked-resolved raw none =
       each_counter = of_counters.2;
       each_invariant = of_invariants.1;
       each_method = each-known (method_faults rs cs) (resolved_method rs cs) (IsMethod rs cs) (λ b m here. IsMethod-known rs cs b m (IsFaultless-known rs cs b m here)) raw.methods rest.1;
+      typed = typed;
     }
 
 -- the sections that were resolved one after another make the resolved object
@@ -203,5 +205,5 @@ AreParts-of raw rs cs is ms of_relations of_counters of_invariants of_methods =
       same = rw (of_relations.1, counters.1, invariants.1, methods.1) refl;
     }
 
-pub IsChecked-parts : (raw : Raw) (rs : List Relation) (cs : List Counter) (is : List Invariant) (ms : List Method) → AreParts raw rs cs is ms → IsChecked (record { relations = rs; counters = cs; invariants = is; methods = ms })
-IsChecked-parts raw rs cs is ms parts = rw parts.same (IsChecked-resolved raw parts.none)
+pub IsChecked-parts : (raw : Raw) (rs : List Relation) (cs : List Counter) (is : List Invariant) (ms : List Method) → AreParts raw rs cs is ms → IsTyped (record { relations = rs; counters = cs; invariants = is; methods = ms }) → IsChecked (record { relations = rs; counters = cs; invariants = is; methods = ms })
+IsChecked-parts raw rs cs is ms parts typed = rw parts.same (IsChecked-resolved raw (rw parts.same at typed) parts.none)

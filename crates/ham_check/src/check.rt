@@ -1,8 +1,10 @@
 //! The check of a raw object: its sections, entries and parts in order, up to the first fault.
 
-ghost use Rattle.std.specs.Prelude.{◌≡◌, ◌≢◌, ◌<◌, ◌≤◌, [], length, map, IfOk};
+ghost use Rattle.std.specs.Prelude.{◌≡◌, ◌≢◌, ◌<◌, ◌≤◌, [], Ok, length, map, IsTrue, IfOk};
 ghost use Rattle.std.specs.List.{AllByRecursion};
 ghost use Rattle.ham_syntax.specs.Checked.{IsRelation};
+ghost use Rattle.ham_syntax.specs.Names.{is_name};
+ghost use Rattle.ham_syntax.specs.Typed.{IsTypedEffect, IsTypedGuard, IsTypedInvariant, IsTypedMethod};
 ghost use Rattle.ham_check.specs.Faults as faults;
 ghost use Rattle.ham_check.specs.Resolved as resolved;
 
@@ -15,7 +17,9 @@ use crate::raw::{
 use ham_syntax::limits::{
     MAX_COUNTERS, MAX_INVARIANTS, MAX_METHODS, MAX_PARAMS, MAX_PARTS, MAX_RELATIONS,
 };
-use ham_syntax::{Counter, Effect, Guard, Invariant, Items, Method, Object, Param, Relation};
+use ham_syntax::{
+    Counter, Effect, Guard, Invariant, Items, Method, NoMemory, Object, Param, Relation,
+};
 use std::alloc::Global;
 
 /// The sections of a raw object, as places number them.
@@ -28,7 +32,8 @@ const INVARIANTS: u8 = 3;
 const METHODS: u8 = 4;
 
 fn placed<T>(at: IllPlace, outcome: Result<T, IllKind>) -> Result<T, CheckFault>
-    ensures { result ≡ faults.placed at outcome }
+    ensures placed { result ≡ faults.placed at outcome }
+    ensures same { IfOk result (λ answer. outcome ≡ Ok answer) }
 {
     match outcome {
         Ok(answer) => Ok(answer),
@@ -40,6 +45,7 @@ fn relation_entry(before: &[RawRelation], relation: &RawRelation) -> Result<Rela
     requires { length before.now ≤ MAX_RELATIONS }
     ensures checks { faults.Checks (faults.relation_faults before.now relation.now) (faults.relation_of relation.now) result }
     ensures room { IfOk result (λ _. length before.now ≢ MAX_RELATIONS) }
+    ensures named { IfOk result (λ r. IsTrue (is_name r.name)) }
 {
     let at = IllPlace {
         section: RELATIONS,
@@ -53,6 +59,7 @@ fn resolve_relations(alloc: Global, raw: &[RawRelation]) -> Result<Items<Relatio
     ensures checks { faults.Checks (faults.entry_faults faults.relation_faults [] raw.now) (map faults.relation_of raw.now) result }
     ensures few { IfOk result (λ relations. length relations ≤ MAX_RELATIONS) }
     ensures each { IfOk result (λ relations. AllByRecursion IsRelation relations) }
+    ensures named { IfOk result (AllByRecursion (λ r. IsTrue (is_name r.name))) }
 {
     let mut relations = Items::new(alloc);
     for (i, relation) in raw.iter().enumerate() {
@@ -69,6 +76,7 @@ fn counter_entry(
     requires { length before.now ≤ MAX_COUNTERS }
     ensures checks { faults.Checks (faults.counter_faults relations.now before.now counter.now) counter.now result }
     ensures room { IfOk result (λ _. length before.now ≢ MAX_COUNTERS) }
+    ensures named { IfOk result (λ c. IsTrue (is_name c.name)) }
 {
     let at = IllPlace {
         section: COUNTERS,
@@ -76,7 +84,10 @@ fn counter_entry(
         part: 0,
     };
     placed(at, check_counter(relations, before, counter))?;
-    Ok(*counter)
+    Ok(Counter {
+        name: counter.name.known(),
+        keyed: counter.keyed,
+    })
 }
 
 fn check_counters(
@@ -86,6 +97,7 @@ fn check_counters(
 ) -> Result<Items<Counter>, CheckFault>
     ensures checks { faults.Checks (faults.entry_faults (faults.counter_faults relations.now) [] raw.now) raw.now result }
     ensures few { IfOk result (λ counters. length counters ≤ MAX_COUNTERS) }
+    ensures named { IfOk result (AllByRecursion (λ c. IsTrue (is_name c.name))) }
 {
     let mut counters = Items::new(alloc);
     for (i, counter) in raw.iter().enumerate() {
@@ -109,6 +121,7 @@ fn invariant_entry(
         (resolved.resolved_invariant relations.now counters.now invariant.now)
         result }
     ensures room { IfOk result (λ _. length before.now ≢ MAX_INVARIANTS) }
+    ensures typed { IfOk result IsTypedInvariant }
 {
     let at = IllPlace {
         section: INVARIANTS,
@@ -130,10 +143,11 @@ fn resolve_invariants(
     requires relations { length relations.now ≤ MAX_RELATIONS }
     requires each { AllByRecursion IsRelation relations.now }
     requires counters { length counters.now ≤ MAX_COUNTERS }
-    ensures { faults.Checks
+    ensures checks { faults.Checks
         (faults.entry_faults (faults.invariant_faults relations.now counters.now) [] raw.now)
         (map (resolved.resolved_invariant relations.now counters.now) raw.now)
         result }
+    ensures typed { IfOk result (AllByRecursion IsTypedInvariant) }
 {
     let mut invariants = Items::new(alloc);
     for (i, invariant) in raw.iter().enumerate() {
@@ -155,10 +169,11 @@ fn guard_entry(
     requires counters { length counters.now ≤ MAX_COUNTERS }
     requires params { length params.now ≤ MAX_PARAMS }
     requires before { length before.now ≤ MAX_PARTS }
-    ensures { faults.Checks
+    ensures checks { faults.Checks
         (faults.guard_faults relations.now counters.now entry params.now before.now part.now)
         (resolved.resolved_guard relations.now counters.now params.now part.now)
         result }
+    ensures typed { IfOk result IsTypedGuard }
 {
     let at = IllPlace {
         section: METHODS,
@@ -181,10 +196,11 @@ fn resolve_guards(
     requires counters { length counters.now ≤ MAX_COUNTERS }
     requires params { length params.now ≤ MAX_PARAMS }
     requires raw { length raw.now ≤ MAX_PARTS }
-    ensures { faults.Checks
+    ensures checks { faults.Checks
         (faults.entry_faults (faults.guard_faults relations.now counters.now entry params.now) [] raw.now)
         (map (resolved.resolved_guard relations.now counters.now params.now) raw.now)
         result }
+    ensures typed { IfOk result (AllByRecursion IsTypedGuard) }
 {
     let mut guards = Items::new(alloc);
     for (i, part) in raw.iter().enumerate() {
@@ -206,10 +222,11 @@ fn effect_entry(
     requires counters { length counters.now ≤ MAX_COUNTERS }
     requires params { length params.now ≤ MAX_PARAMS }
     requires before { length before.now ≤ MAX_PARTS }
-    ensures { faults.Checks
+    ensures checks { faults.Checks
         (faults.effect_faults relations.now counters.now entry params.now before.now part.now)
         (resolved.resolved_effect relations.now counters.now params.now part.now)
         result }
+    ensures typed { IfOk result IsTypedEffect }
 {
     let at = IllPlace {
         section: METHODS,
@@ -232,16 +249,31 @@ fn resolve_effects(
     requires counters { length counters.now ≤ MAX_COUNTERS }
     requires params { length params.now ≤ MAX_PARAMS }
     requires raw { length raw.now ≤ MAX_PARTS }
-    ensures { faults.Checks
+    ensures checks { faults.Checks
         (faults.entry_faults (faults.effect_faults relations.now counters.now entry params.now) [] raw.now)
         (map (resolved.resolved_effect relations.now counters.now params.now) raw.now)
         result }
+    ensures typed { IfOk result (AllByRecursion IsTypedEffect) }
 {
     let mut effects = Items::new(alloc);
     for (i, part) in raw.iter().enumerate() {
         effects.push(effect_entry(relations, counters, entry, params, &raw[..i], part)?)?;
     }
     Ok(effects)
+}
+
+fn named_params(alloc: Global, raw: &[Param]) -> Result<Items<Param>, NoMemory>
+    ensures same { IfOk result (λ params. params ≡ raw.now) }
+    ensures named { IfOk result (AllByRecursion (λ p. IsTrue (is_name p.name))) }
+{
+    let mut params = Items::new(alloc);
+    for param in raw {
+        params.push(Param {
+            name: param.name.known(),
+            kind: param.kind,
+        })?;
+    }
+    Ok(params)
 }
 
 fn method_entry(
@@ -260,6 +292,7 @@ fn method_entry(
         (resolved.resolved_method relations.now counters.now raw.now)
         result }
     ensures room { IfOk result (λ _. length before.now ≢ MAX_METHODS) }
+    ensures typed { IfOk result IsTypedMethod }
 {
     let entry = before.len() as u32 + 1;
     let at = IllPlace {
@@ -268,7 +301,7 @@ fn method_entry(
         part: 0,
     };
     placed(at, check_method(before, raw))?;
-    let params = raw.params.copy()?;
+    let params = named_params(alloc, raw.params.items())?;
     let guards = resolve_guards(
         alloc,
         relations,
@@ -286,7 +319,7 @@ fn method_entry(
         raw.effects.items(),
     )?;
     Ok(Method {
-        name: raw.name,
+        name: raw.name.known(),
         params,
         guards,
         effects,
@@ -302,10 +335,11 @@ fn resolve_methods(
     requires relations { length relations.now ≤ MAX_RELATIONS }
     requires each { AllByRecursion IsRelation relations.now }
     requires counters { length counters.now ≤ MAX_COUNTERS }
-    ensures { faults.Checks
+    ensures checks { faults.Checks
         (faults.entry_faults (faults.method_faults relations.now counters.now) [] raw.now)
         (map (resolved.resolved_method relations.now counters.now) raw.now)
         result }
+    ensures typed { IfOk result (AllByRecursion IsTypedMethod) }
 {
     let mut methods = Items::new(alloc);
     for (i, method) in raw.iter().enumerate() {

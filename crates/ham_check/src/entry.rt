@@ -1,8 +1,9 @@
 //! Relations, counters and methods, one at a time: the tests of an entry beside those before it.
 
-ghost use Rattle.std.specs.Prelude.{◌≡◌, ◌≢◌, ◌≤◌, length, nat_eq, IfOk};
+ghost use Rattle.std.specs.Prelude.{◌≡◌, ◌≢◌, ◌≤◌, length, nat_eq, IsTrue, IfOk};
 ghost use Rattle.std.specs.List.{list_any};
 ghost use Rattle.std.specs.Cmp.Lexicographic.{pointwise};
+ghost use Rattle.ham_syntax.specs.Names.{is_name};
 ghost use Rattle.ham_check.specs.Faults as faults;
 
 use crate::raw::{IllKind, RawMethod, RawRelation};
@@ -47,6 +48,7 @@ pub(crate) fn resolve_relation_entry(
 ) -> Result<Relation, IllKind>
     ensures checked { result ≡ faults.settled (faults.relation_kinds before.now relation.now) (faults.relation_of relation.now) }
     ensures room { IfOk result (λ _. length before.now ≢ MAX_RELATIONS) }
+    ensures named { IfOk result (λ r. IsTrue (is_name r.name)) }
 {
     if before.len() == MAX_RELATIONS {
         return Err(IllKind::TooMany);
@@ -58,7 +60,7 @@ pub(crate) fn resolve_relation_entry(
         return Err(IllKind::BadArity);
     }
     Ok(Relation {
-        name: relation.name,
+        name: relation.name.known(),
         columns: relation.columns as u8,
     })
 }

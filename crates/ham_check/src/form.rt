@@ -5,6 +5,7 @@ ghost use Rattle.std.specs.List.{list_any, AllByRecursion};
 ghost use Rattle.ham_syntax.specs.declared.object.Invariant.TheVariants as invariants;
 ghost use Rattle.ham_check.specs.declared.raw.IllKind.TheVariants as kinds;
 ghost use Rattle.ham_syntax.specs.Checked.{IsRelation};
+ghost use Rattle.ham_syntax.specs.Typed.{IsTypedInvariant};
 ghost use Rattle.ham_check.specs.Faults as faults;
 ghost use Rattle.ham_check.specs.Resolved as resolved;
 
@@ -91,10 +92,11 @@ fn resolve_form(
     requires relations { length relations.now ≤ MAX_RELATIONS }
     requires each { AllByRecursion IsRelation relations.now }
     requires counters { length counters.now ≤ MAX_COUNTERS }
-    ensures { result
+    ensures resolved { result
         ≡ faults.settled
         (faults.form_kinds relations.now counters.now invariant.now)
         (resolved.resolved_invariant relations.now counters.now invariant.now) }
+    ensures typed { IfOk result IsTypedInvariant }
 {
     match invariant {
         RawInvariant::Reference { from, columns, to } => {
@@ -145,6 +147,7 @@ pub(crate) fn resolve_invariant(
         (faults.invariant_kinds relations.now counters.now before.now invariant.now)
         (resolved.resolved_invariant relations.now counters.now invariant.now) }
     ensures room { IfOk result (λ _. length before.now ≢ MAX_INVARIANTS) }
+    ensures typed { IfOk result IsTypedInvariant }
 {
     if before.len() == MAX_INVARIANTS {
         return Err(IllKind::TooMany);

@@ -1,10 +1,11 @@
 //! Guards and effects, one at a time: their faults, and their names as numbers.
 
-ghost use Rattle.std.specs.Prelude.{◌≡◌, ◌<◌, ◌≤◌, ◌++◌, length, map, unwrap_or, Some, IfSome};
+ghost use Rattle.std.specs.Prelude.{◌≡◌, ◌<◌, ◌≤◌, ◌++◌, length, map, unwrap_or, Some, IfOk, IfSome};
 ghost use Rattle.std.specs.List.{AllByRecursion};
 ghost use Rattle.ham_syntax.specs.declared.object.Kind.TheVariants as kinds_of;
 ghost use Rattle.ham_syntax.specs.declared.term.Term.TheVariants as terms_of;
 ghost use Rattle.ham_syntax.specs.Checked.{IsRelation};
+ghost use Rattle.ham_syntax.specs.Typed.{AreTyped, IsTypedEffect, IsTypedGuard, IsTypedKey, IsTypedTerm};
 ghost use Rattle.ham_check.specs.Faults as faults;
 ghost use Rattle.ham_check.specs.Resolved as resolved;
 
@@ -32,11 +33,12 @@ fn same_kind(wanted: Kind, found: Kind) -> bool
 
 fn resolve_param(kind: Kind, params: &[Param], name: &Name) -> Result<Term, IllKind>
     requires { length params.now ≤ MAX_PARAMS }
-    ensures { let place = faults.param_place params.now name.now in
+    ensures resolved { let place = faults.param_place params.now name.now in
         result
         ≡ faults.settled
         (faults.param_kinds kind (faults.param_at params.now place))
         (terms_of.Param (unwrap_or place 0)) }
+    ensures typed { IfOk result IsTypedTerm }
 {
     let Some(place) = param_place(params, name) else {
         return Err(IllKind::UnknownName);
@@ -49,10 +51,11 @@ fn resolve_param(kind: Kind, params: &[Param], name: &Name) -> Result<Term, IllK
 
 fn resolve_term(kind: Kind, params: &[Param], term: RawTerm) -> Result<Term, IllKind>
     requires { length params.now ≤ MAX_PARAMS }
-    ensures { result
+    ensures resolved { result
         ≡ faults.settled
         (faults.term_kinds kind params.now term)
         (resolved.resolved_term params.now term) }
+    ensures typed { IfOk result IsTypedTerm }
 {
     match term {
         RawTerm::Any => Err(IllKind::AnyNotAllowed),
@@ -72,10 +75,11 @@ fn resolve_key_and_amount(
     amount: RawTerm,
 ) -> Result<(Option<Term>, Term), IllKind>
     requires { length params.now ≤ MAX_PARAMS }
-    ensures { result
+    ensures resolved { result
         ≡ faults.settled
         (faults.term_kinds kinds_of.Id params.now key ++ faults.term_kinds kinds_of.Amount params.now amount)
         (Some (resolved.resolved_term params.now key), resolved.resolved_term params.now amount) }
+    ensures typed { IfOk result (λ r. IsTypedKey r.0 × IsTypedTerm r.1) }
 {
     let key = resolve_term(Kind::Id, params, key)?;
     let amount = resolve_term(Kind::Amount, params, amount)?;
@@ -88,10 +92,11 @@ fn resolve_terms(
     terms: &[RawTerm],
 ) -> Result<(Option<Term>, Term), IllKind>
     requires { length params.now ≤ MAX_PARAMS }
-    ensures { result
+    ensures resolved { result
         ≡ faults.settled
         (faults.terms_kinds keyed params.now terms.now)
         (resolved.resolved_key params.now terms.now, resolved.resolved_amount params.now terms.now) }
+    ensures typed { IfOk result (λ r. IsTypedKey r.0 × IsTypedTerm r.1) }
 {
     match (keyed, terms) {
         (true, [key, amount]) => resolve_key_and_amount(params, *key, *amount),
@@ -106,8 +111,9 @@ fn resolve_terms(
 /// A term as an id; where any is allowed, `_` too.
 fn resolve_id(any: bool, params: &[Param], term: RawTerm) -> Result<Term, IllKind>
     requires { length params.now ≤ MAX_PARAMS }
-    ensures { result
+    ensures resolved { result
         ≡ faults.settled (faults.id_kinds any params.now term) (resolved.resolved_term params.now term) }
+    ensures typed { IfOk result IsTypedTerm }
 {
     match term {
         RawTerm::Any => {
@@ -124,10 +130,11 @@ fn resolve_id(any: bool, params: &[Param], term: RawTerm) -> Result<Term, IllKin
 fn resolve_ids(any: bool, params: &[Param], terms: &[RawTerm]) -> Result<Terms, IllKind>
     requires params { length params.now ≤ MAX_PARAMS }
     requires terms { length terms.now ≤ MAX_COLUMNS }
-    ensures { result
+    ensures resolved { result
         ≡ faults.settled
         (faults.ids_kinds any params.now terms.now)
         (map (resolved.resolved_term params.now) terms.now) }
+    ensures typed { IfOk result AreTyped }
 {
     let mut ids = Terms::none();
     for term in terms {
@@ -146,10 +153,11 @@ fn resolve_row(
 ) -> Result<Terms, IllKind>
     requires each { AllByRecursion IsRelation relations.now }
     requires params { length params.now ≤ MAX_PARAMS }
-    ensures { result
+    ensures resolved { result
         ≡ faults.settled
         (faults.on_relation_kinds any relations.now params.now terms.now (Some relation))
         (map (resolved.resolved_term params.now) terms.now) }
+    ensures typed { IfOk result AreTyped }
 {
     if terms.len() != usize::from(width_at(relations, relation)) {
         return Err(IllKind::BadArity);
@@ -173,13 +181,14 @@ fn resolve_on_relation(
     requires relations { length relations.now ≤ MAX_RELATIONS }
     requires each { AllByRecursion IsRelation relations.now }
     requires params { length params.now ≤ MAX_PARAMS }
-    ensures { result
+    ensures resolved { result
         ≡ faults.settled
         (faults.relation_part_kinds any relations.now counters.now params.now part.now)
         (record {
           relation = resolved.relation_number relations.now part.now.name;
           terms = map (resolved.resolved_term params.now) part.now.terms;
         }) }
+    ensures typed { IfOk result (λ p. AreTyped p.terms) }
 {
     let relation = resolve_relation(relations, counters, &part.name)?;
     let terms = resolve_row(any, relations, params, part.terms.items(), relation)?;
@@ -202,10 +211,11 @@ fn resolve_amounts(
 ) -> Result<(Option<Term>, Term), IllKind>
     requires params { length params.now ≤ MAX_PARAMS }
     requires within { counter < length counters.now }
-    ensures { result
+    ensures resolved { result
         ≡ faults.settled
         (faults.on_counter_kinds params.now terms.now (faults.counter_at counters.now (Some counter)))
         (resolved.resolved_key params.now terms.now, resolved.resolved_amount params.now terms.now) }
+    ensures typed { IfOk result (λ r. IsTypedKey r.0 × IsTypedTerm r.1) }
 {
     resolve_terms(counters[counter as usize].keyed, params, terms)
 }
@@ -218,7 +228,7 @@ fn resolve_on_counter(
 ) -> Result<OnCounter, IllKind>
     requires counters { length counters.now ≤ MAX_COUNTERS }
     requires params { length params.now ≤ MAX_PARAMS }
-    ensures { let terms = part.now.terms in
+    ensures resolved { let terms = part.now.terms in
         result
         ≡ faults.settled
         (faults.counter_part_kinds relations.now counters.now params.now part.now)
@@ -227,6 +237,7 @@ fn resolve_on_counter(
           key = resolved.resolved_key params.now terms;
           amount = resolved.resolved_amount params.now terms;
         }) }
+    ensures typed { IfOk result (λ p. IsTypedKey p.key × IsTypedTerm p.amount) }
 {
     let counter = resolve_counter(relations, counters, &part.name)?;
     let (key, amount) = resolve_amounts(counters, params, part.terms.items(), counter)?;
@@ -247,10 +258,11 @@ pub(crate) fn resolve_guard(
     requires each { AllByRecursion IsRelation relations.now }
     requires counters { length counters.now ≤ MAX_COUNTERS }
     requires params { length params.now ≤ MAX_PARAMS }
-    ensures { result
+    ensures resolved { result
         ≡ faults.settled
         (faults.part_kinds faults.is_guard_verb relations.now counters.now params.now part.now)
         (resolved.resolved_guard relations.now counters.now params.now part.now) }
+    ensures typed { IfOk result IsTypedGuard }
 {
     match part.verb {
         Verb::Present => {
@@ -303,10 +315,11 @@ pub(crate) fn resolve_effect(
     requires each { AllByRecursion IsRelation relations.now }
     requires counters { length counters.now ≤ MAX_COUNTERS }
     requires params { length params.now ≤ MAX_PARAMS }
-    ensures { result
+    ensures resolved { result
         ≡ faults.settled
         (faults.part_kinds faults.is_effect_verb relations.now counters.now params.now part.now)
         (resolved.resolved_effect relations.now counters.now params.now part.now) }
+    ensures typed { IfOk result IsTypedEffect }
 {
     match part.verb {
         Verb::Insert => {

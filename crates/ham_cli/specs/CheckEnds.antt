@@ -2,7 +2,7 @@
 --     IsProof         the file is the text of a good derivation, so its claim holds
 --     IsRefused       the file is none, by its first bad line or its first gap
 use Rattle.std.specs.Prelude.{◌⊎◌, ℕ, List, [], ◌∷◌, ◌++◌, Option, Some, None, Result, Ok, Err, codes}
-use Rattle.ham_syntax.specs.declared.list.NoMemory.{NoMemory}
+use Rattle.ham_lists.specs.declared.list.NoMemory.{NoMemory}
 use Rattle.ham_syntax.specs.Objects.{Schema}
 use Rattle.ham_bytes.specs.declared.shelf.File.{File}
 use Rattle.ham_rules.specs.declared.claim.Claim.{Claim}

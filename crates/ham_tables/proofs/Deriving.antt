@@ -9,13 +9,13 @@ use Rattle.ham_meaning.specs.Relations.{IsActOf, StateCommute, InvariantSufficie
 use Rattle.ham_meaning.specs.OfObjects.{meaning}
 use Rattle.ham_rules.specs.declared.claim.Claim.{Claim}
 use Rattle.ham_rules.specs.declared.claim.Claim.TheVariants.{Sc, Is, Pr, Pl}
-use Rattle.ham_analyse.specs.Analysis.{is_derivable}
-use Rattle.ham_analyse.proofs.Derived.{computed-holds}
-use Rattle.ham_plan.specs.Executions.{IsSound}
+use Rattle.ham_rules.specs.Derivations.{is_derivable}
+use Rattle.ham_rules.proofs.Derived.{computed-holds}
+use Rattle.ham_laws.specs.Executions.{IsSound}
 use Rattle.ham_plan.specs.Plans.{Plan, IsPlan, among, conflicts, depends_on}
-use Rattle.ham_plan.specs.Constrained.{constraints_of}
+use Rattle.ham_laws.specs.Constrained.{constraints_of}
 use Rattle.ham_plan.specs.Grids.{cell}
-use Rattle.ham_plan.proofs.Missing.{IsActOf-within}
+use Rattle.ham_laws.proofs.Missing.{IsActOf-within}
 use Rattle.ham_tables.specs.DerivedPlans.{stays, concur, conflict_of, depends_of, IsDerivedPlan}
 
 both : (a b : Bool) → (a && b) ≡ true → (a ≡ true) × (b ≡ true)

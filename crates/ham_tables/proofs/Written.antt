@@ -4,7 +4,7 @@ use Rattle.std.specs.List.{flat_map, join_with_byte, range_with_len}
 use Rattle.std.proofs.lemmas.List.{append-nil}
 use Rattle.std.proofs.lemmas.List.FromFn.{map-range_with_len_more}
 use Rattle.ham_rules.specs.Claims.{each_below, lists_below}
-use Rattle.ham_derive.specs.Texts.{line_text}
+use Rattle.ham_text.specs.Written.{line_text}
 use Rattle.std.specs.Prelude.{codes}
 use Rattle.std.specs.Fmt.{decimal}
 use Rattle.ham_syntax.specs.Objects.{Schema}

@@ -5,7 +5,7 @@
 use Rattle.std.specs.Prelude.{◌≡◌, ℕ, ◌<◌, nat_le, Bool, not, ◌&&◌, ◌||◌, if◌then◌else◌, length}
 use Rattle.ham_syntax.specs.Objects.{Schema}
 use Rattle.ham_rules.specs.declared.claim.Claim.TheVariants.{Sc, Is, Pr, Pl}
-use Rattle.ham_analyse.specs.Analysis.{is_derivable}
+use Rattle.ham_rules.specs.Derivations.{is_derivable}
 use Rattle.ham_plan.specs.Plans.{Plan, IsPlan, conflicts, depends_on}
 
 -- acts of m are derived to stay permissible after acts of n

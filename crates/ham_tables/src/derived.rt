@@ -3,14 +3,13 @@
 ghost use Rattle.std.specs.Prelude.{◌≡◌, ◌≢◌, ℕ, ◌<◌, ◌≤◌, false, length};
 ghost use Rattle.ham_syntax.specs.Checked.{IsChecked};
 ghost use Rattle.ham_meaning.specs.OfObjects.{meaning};
-ghost use Rattle.ham_plan.specs.Executions.{IsSound};
-ghost use Rattle.ham_plan.specs.Constrained.{constraints_of};
+ghost use Rattle.ham_laws.specs.Executions.{IsSound};
+ghost use Rattle.ham_laws.specs.Constrained.{constraints_of};
 ghost use Rattle.ham_plan.specs.Grids.{cell};
 ghost use Rattle.ham_tables.specs.DerivedPlans as derived_plans;
 
-use ham_analyse::derivable;
 use ham_plan::{Grid, Plan};
-use ham_rules::Claim;
+use ham_rules::{Claim, derivable};
 use ham_syntax::Object;
 
 fn stays(object: &Object, m: u8, n: u8) -> bool

@@ -5,9 +5,9 @@ ghost use Rattle.ham_syntax.specs.declared.act.Place.{Place};
 ghost use Rattle.ham_syntax.specs.Objects.{Schema};
 ghost use Rattle.ham_syntax.specs.Checked.{IsChecked};
 ghost use Rattle.ham_meaning.specs.OfObjects.{meaning};
-ghost use Rattle.ham_plan.specs.Coordinated.{IsCoordinated};
-ghost use Rattle.ham_plan.specs.Executions.{IsSound, Execution, IsWellCoordinated};
-ghost use Rattle.ham_plan.specs.Constrained.{constraints_of};
+ghost use Rattle.ham_laws.specs.Coordinated.{IsCoordinated};
+ghost use Rattle.ham_laws.specs.Executions.{IsSound, Execution, IsWellCoordinated};
+ghost use Rattle.ham_laws.specs.Constrained.{constraints_of};
 ghost use Rattle.ham_plan.specs.Plans.{Plan};
 ghost use Rattle.ham_tables.specs.DerivedPlans.{IsDerivedPlan};
 

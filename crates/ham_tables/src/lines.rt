@@ -3,7 +3,8 @@
 ghost use Rattle.std.specs.Prelude.{◌≡◌, ◌<◌, ◌∷◌, ◌++◌, [], length, codes, IsTrue, OnOk, OnErr};
 ghost use Rattle.std.specs.Fmt.{decimal};
 ghost use Rattle.ham_syntax.specs.Names.{is_name};
-ghost use Rattle.ham_derive.specs.Texts.{name_at, line_text};
+ghost use Rattle.ham_syntax.specs.Objects.{method_name};
+ghost use Rattle.ham_text.specs.Written.{line_text};
 
 use ham_syntax::{Bytes, NoMemory, Object};
 use std::alloc::Global;
@@ -11,7 +12,7 @@ use std::alloc::Global;
 /// The name of method m.
 fn name(object: &Object, m: u8) -> &[u8]
     requires { m < length object.now.methods }
-    ensures { result.now ≡ name_at object.now m }
+    ensures { result.now ≡ method_name object.now m }
 {
     object.methods()[usize::from(m)].name.bytes()
 }
@@ -19,7 +20,7 @@ fn name(object: &Object, m: u8) -> &[u8]
 /// Puts a space and the name of method m last.
 pub(crate) fn push_name(text: &mut Bytes, object: &Object, m: u8) -> Result<(), NoMemory>
     requires { m < length object.now.methods }
-    ensures { OnOk result (text.new ≡ text.old ++ (32 ∷ name_at object.now m)) }
+    ensures { OnOk result (text.new ≡ text.old ++ (32 ∷ method_name object.now m)) }
 {
     text.push(b' ')?;
     text.extend(name(object, m))
@@ -42,7 +43,7 @@ pub(crate) fn push_pair(
 ) -> Result<(), NoMemory>
     requires m_exists { m < length object.now.methods }
     requires n_exists { n < length object.now.methods }
-    ensures { OnOk result (text.new ≡ text.old ++ line_text (word.now ∷ name_at object.now m ∷ name_at object.now n ∷ [])) }
+    ensures { OnOk result (text.new ≡ text.old ++ line_text (word.now ∷ method_name object.now m ∷ method_name object.now n ∷ [])) }
 {
     text.extend(word)?;
     push_name(text, object, m)?;
@@ -82,7 +83,7 @@ pub(crate) fn push_own_lane(
     replica: u8,
 ) -> Result<(), NoMemory>
     requires { m < length object.now.methods }
-    ensures { OnOk result (text.new ≡ text.old ++ line_text (codes "lane" ∷ decimal lane ∷ name_at object.now m ∷ decimal replica ∷ [])) }
+    ensures { OnOk result (text.new ≡ text.old ++ line_text (codes "lane" ∷ decimal lane ∷ method_name object.now m ∷ decimal replica ∷ [])) }
 {
     text.extend(b"lane ")?;
     push_number(alloc, text, u16::from(lane))?;

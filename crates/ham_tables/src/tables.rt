@@ -3,7 +3,7 @@
 ghost use Rattle.std.specs.Prelude.{◌≡◌, ◌<◌, ◌≤◌, ◌∷◌, ◌++◌, [], length, map, codes, IfOk, OnOk};
 ghost use Rattle.std.specs.List.{flat_map, join_with_byte, range_with_len};
 ghost use Rattle.std.specs.Fmt.{decimal};
-ghost use Rattle.ham_derive.specs.Texts.{line_text};
+ghost use Rattle.ham_text.specs.Written.{line_text};
 ghost use Rattle.ham_plan.specs.Plans as plans;
 ghost use Rattle.ham_tables.specs.TablesText as tables_text;
 

@@ -1,5 +1,5 @@
 use Rattle.ham_check.proofs.FirstFault.{Checks-placed}
 use Rattle.ham_check.proofs.check.guard_entry.Goals as goal
 
-pub returns : goal.returns
-returns c = Checks-placed _ _ _ c.resolve_guard.result c.placed.result c.resolve_guard.ensures c.placed.ensures
+pub returns-clause-checks : goal.returns-clause-checks
+returns-clause-checks c = Checks-placed _ _ _ c.resolve_guard.result c.placed.result c.resolve_guard.ensures.resolved c.placed.ensures.placed

@@ -1,4 +1,4 @@
-use Rattle.ham_derive.specs.Texts.{line_text}
+use Rattle.ham_text.specs.Written.{line_text}
 use Rattle.ham_tables.specs.TablesText.{depend_row}
 use Rattle.ham_tables.proofs.Written.{IsWritten}
 use Rattle.ham_tables.proofs.tables.push_dependencies.Given as goal

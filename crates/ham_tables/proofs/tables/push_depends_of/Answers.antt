@@ -1,4 +1,4 @@
-use Rattle.ham_derive.specs.Texts.{line_text}
+use Rattle.ham_text.specs.Written.{line_text}
 use Rattle.ham_tables.specs.TablesText.{depend_pair}
 use Rattle.ham_tables.proofs.Written.{written-more}
 use Rattle.ham_tables.proofs.tables.push_depends_of.Goals as goal

@@ -1,4 +1,4 @@
-use Rattle.ham_derive.specs.Texts.{line_text}
+use Rattle.ham_text.specs.Written.{line_text}
 use Rattle.ham_tables.specs.TablesText.{own_lane}
 use Rattle.ham_tables.proofs.Written.{IsEach}
 use Rattle.ham_tables.proofs.tables.push_each_lane.Given as goal

@@ -1,4 +1,4 @@
-use Rattle.ham_derive.specs.Texts.{line_text}
+use Rattle.ham_text.specs.Written.{line_text}
 use Rattle.ham_tables.specs.TablesText.{own_lanes}
 use Rattle.ham_tables.proofs.Written.{IsWritten}
 use Rattle.ham_tables.proofs.tables.push_free_lanes.Given as goal

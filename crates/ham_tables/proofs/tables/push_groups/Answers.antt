@@ -1,5 +1,5 @@
 use Rattle.std.proofs.Common.{◌+◌, arith}
-use Rattle.ham_derive.specs.Texts.{line_text}
+use Rattle.ham_text.specs.Written.{line_text}
 use Rattle.ham_tables.specs.TablesText.{group_line}
 use Rattle.ham_tables.proofs.Written.{each-more}
 use Rattle.ham_tables.proofs.tables.push_groups.Goals as goal
