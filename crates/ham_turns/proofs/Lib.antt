@@ -1,0 +1,2 @@
+pub mod PlanFacts
+mod Tabling
