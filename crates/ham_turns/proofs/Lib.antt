@@ -1,2 +1,3 @@
 pub mod PlanFacts
+mod Ranging
 mod Tabling

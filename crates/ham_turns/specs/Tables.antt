@@ -1,8 +1,14 @@
--- What a replica's code needs of its setting: each number that it gives is one that exists. Every plan's setting has it.
-use Rattle.std.specs.Prelude.{◌≡◌, ◌≢◌, ℕ, ◌≤◌, ◌<◌, length}
+-- What a replica's code needs of its setting and rules.
+--     IsTabled     each number that a setting gives is one that exists; every plan's setting has it
+--     IsRanged     what rules let pass or answer has a place in frames; every checked object's rules have it
+use Rattle.std.specs.Prelude.{◌≡◌, ◌≢◌, ℕ, ◌≤◌, ◌<◌, length, IsTrue}
 use Rattle.std.specs.List.{AllByRecursion}
-use Rattle.ham_syntax.specs.declared.limits.TheConstants.{MAX_REPLICAS, MAX_GROUPS, MAX_LANES, MAX_SLOTS}
-use Rattle.ham_turns.specs.Settings.{Setting, IsReplica}
+use Rattle.ham_syntax.specs.declared.act.Act.{Act}
+use Rattle.ham_syntax.specs.declared.limits.TheConstants.{MAX_REPLICAS, MAX_GROUPS, MAX_LANES, MAX_SLOTS, MAX_LANE_CALLS, MAX_PARTS, MAX_INVARIANTS}
+use Rattle.ham_state.specs.Content.{State}
+use Rattle.ham_meaning.specs.declared.outcome.Outcome.TheVariants as outcomes
+use Rattle.ham_frame.specs.Spelling.{FitsAct, IsArgument}
+use Rattle.ham_turns.specs.Settings.{Rules, Setting, IsReplica}
 
 -- a slot of some method and replica
 pub record IsSlot (y : Setting) (s : ℕ) : Type 0 where
@@ -33,3 +39,10 @@ pub record IsTabled (y : Setting) (slots : ℕ) : Type 0 where
   pub needs_exist : (m : ℕ) → m < y.methods → AllByRecursion (λ s. s < slots) (y.needs m)
   pub needs_are_slots : (m : ℕ) → m < y.methods → AllByRecursion (IsSlot y) (y.needs m)
   pub few_needs : (m : ℕ) → m < y.methods → length (y.needs m) ≤ MAX_SLOTS
+
+pub record IsRanged (x : Rules) : Type 0 where
+  -- rules don't bound ids: that arguments have 64 bits is said of acts by their type
+  pub act : (a : Act) → IsTrue (x.fits a) → AllByRecursion IsArgument a.args → FitsAct a
+  pub guard : (s : State) (a : Act) (i : ℕ) → x.outcome s a ≡ outcomes.Guard i → i < MAX_PARTS
+  pub invariant : (s : State) (a : Act) (i : ℕ) → x.outcome s a ≡ outcomes.Invariant i → i < MAX_INVARIANTS
+  pub limit : x.lane_limit ≤ MAX_LANE_CALLS
