@@ -22,7 +22,7 @@ use Rattle.ham_cli.specs.CheckEnds.{IsGoodText, ok_line, EndsWith, EndsAtFile}
 use Rattle.ham_cli.specs.DeriveEnds.{claim_named, none_line, EndsWithClaim, EndsWithNames}
 use Rattle.ham_cli.specs.TablesEnds.{EndsWithPlan}
 use Rattle.ham_cli.specs.Writes.{PutsMade}
-use Rattle.ham_cli.specs.Runs.{EndsAs, IsAllowed, Completes}
+use Rattle.ham_cli.specs.Top.{EndsAs, IsAllowed, Completes}
 use Rattle.ham_cli.proofs.Fine.{Fine, IsCalm, put_fine, made_fine, one_file, not_too_long, stops_fine, from_fine}
 
 -- what is refused isn't done

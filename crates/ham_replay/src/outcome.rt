@@ -2,7 +2,7 @@
 
 ghost use Rattle.std.specs.Prelude.{◌≡◌, IfOk};
 ghost use Rattle.ham_replay.specs.Replays as replays;
-ghost use Rattle.ham_replay.specs.Ends.{IsTurn};
+ghost use Rattle.ham_replay.specs.Ends.{IsOutcomeOf};
 
 use crate::end::LineRefusal;
 use crate::line::{Line, read_line};
@@ -20,9 +20,9 @@ pub enum LineEnd {
 }
 
 /// Takes one line: an event steps the world, a query reads it.
-#[tactic(auto, unfolding(crate::specs::Replays::turn_of))]
-pub fn turn(alloc: Global, world: &mut World<'_>, line: &[u8]) -> Result<LineEnd, NoMemory>
-    ensures { IfOk result (λ end. IsTurn world.new (replays.turn_of world.old line.now) end) }
+#[tactic(auto, unfolding(crate::specs::Replays::outcome_of_line))]
+pub fn play_line(alloc: Global, world: &mut World<'_>, line: &[u8]) -> Result<LineEnd, NoMemory>
+    ensures { IfOk result (λ end. IsOutcomeOf world.new (replays.outcome_of_line world.old line.now) end) }
 {
     match read_line(alloc, world.object(), line)? {
         None => Ok(LineEnd::Refused(LineRefusal::NotYet)),
@@ -40,7 +40,7 @@ pub fn turn(alloc: Global, world: &mut World<'_>, line: &[u8]) -> Result<LineEnd
 }
 
 fn take(alloc: Global, world: &mut World<'_>, event: Event) -> Result<LineEnd, NoMemory>
-    ensures { IfOk result (λ end. IsTurn world.new (replays.turn_at world.old (Some (Line.Act event))) end) }
+    ensures { IfOk result (λ end. IsOutcomeOf world.new (replays.outcome_at world.old (Some (Line.Act event))) end) }
 {
     match world.step(event) {
         Ok(note) => Ok(LineEnd::Answered(answer_of_note(alloc, &note)?)),
