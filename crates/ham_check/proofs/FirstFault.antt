@@ -6,7 +6,7 @@ use Rattle.ham_check.specs.declared.raw.CheckFault.{CheckFault}
 use Rattle.ham_check.specs.declared.raw.CheckFault.TheVariants as check
 use Rattle.ham_check.specs.declared.raw.IllKind.{IllKind}
 use Rattle.ham_check.specs.declared.raw.IllPlace.{IllPlace}
-use Rattle.ham_check.specs.Faults.{Checks, settled, placed, faults_at}
+use Rattle.ham_check.specs.Faults.{Checks, first_fault_or, placed, faults_at}
 
 first-append : {A : Type 0} (xs ys : List A) (x : A) → slice_get xs 0 ≡ Some x → slice_get (xs ++ ys) 0 ≡ Some x
 first-append [] ys x e = cc
@@ -37,6 +37,6 @@ Checks-at_Err fs gs w (check.Ill f) e h = rw e h
 Checks-at_Err fs gs w check.NoMemory e h = tt
 
 -- the tests of one entry, at its place
-pub Checks-placed : {A : Type 0} (at : IllPlace) (kinds : List IllKind) (v : A) (r : Result A IllKind) (p : Result A CheckFault) → r ≡ settled kinds v → p ≡ placed at r → Checks (faults_at at kinds) v p
+pub Checks-placed : {A : Type 0} (at : IllPlace) (kinds : List IllKind) (v : A) (r : Result A IllKind) (p : Result A CheckFault) → r ≡ first_fault_or kinds v → p ≡ placed at r → Checks (faults_at at kinds) v p
 Checks-placed at [] v r p e k = rw (k, e) (refl, refl)
 Checks-placed at (kind ∷ kinds) v r p e k = rw (k, e) refl

@@ -1,4 +1,4 @@
-mod Settling
+mod FirstFaultOr
 mod FirstFault
 mod Walked
 pub mod Parts

@@ -1,5 +1,5 @@
 -- What an entry keeps where its tests find no fault.
-use Rattle.std.proofs.Common.{◌≡◌, ◌⊎◌, ℕ, ◌<◌, ◌≤◌, ◌≤ℤ◌, ℤ, pos, Bool, true, false, not, ◌&&◌, ◌||◌, eqb, leb, ltb, List, [], ◌∷◌, ◌++◌, length, get_or, map, Option, Some, None, unwrap_or, inl, inr, refl, sym, ap, ◌∙◌, subst, arith}
+use Rattle.std.proofs.Common.{◌≡◌, ◌⊎◌, ℕ, ◌<◌, ◌≤◌, ◌≤ℤ◌, ℤ, pos, Bool, true, false, not, ◌||◌, eqb, leb, List, [], ◌∷◌, ◌++◌, length, get_or, map, Option, Some, None, unwrap_or, inl, inr, refl, sym, ap, ◌∙◌, subst, arith}
 use Rattle.std.specs.Prelude.{T, slice_get, IfSome, int_lt, nat_eq}
 use Rattle.std.specs.Option.{option_map}
 use Rattle.std.specs.Int.Signed.{lt_z_no}
@@ -23,18 +23,16 @@ use Rattle.ham_check.specs.declared.raw.Verb.{Verb}
 use Rattle.ham_check.specs.declared.raw.Verb.TheVariants.{Present, Absent, AtLeast, AtMost, Insert, Delete, Add, Subtract}
 use Rattle.ham_check.specs.declared.raw.RawTerm.{RawTerm}
 use Rattle.ham_check.specs.declared.raw.RawTerm.TheVariants.{Any, Constant, Named}
-use Rattle.ham_check.specs.declared.raw.RawRelation.{RawRelation}
 use Rattle.ham_check.specs.declared.raw.RawPart.{RawPart}
 use Rattle.ham_check.specs.declared.raw.RawInvariant.{RawInvariant}
 use Rattle.ham_check.specs.declared.raw.RawInvariant.TheVariants.{Reference, Unique, Low, High}
-use Rattle.ham_check.specs.declared.raw.IllKind.{IllKind}
-use Rattle.ham_check.specs.declared.raw.IllKind.TheVariants.{WrongKind, BadArity, BadColumn, SelfReference, OpeningBroken}
+use Rattle.ham_check.specs.declared.raw.IllKind.TheVariants.{BadArity, BadColumn, SelfReference, OpeningBroken}
 use Rattle.ham_check.specs.declared.raw.Ill.{Ill}
 use Rattle.ham_syntax.specs.declared.limits.TheConstants.{MAX_AMOUNT}
-use Rattle.ham_syntax.specs.Checked.{IsParamOf, IsId, IsIdOrAny, IsAmount, IsKey, IsOnRelation, IsOnCounter, IsGuard, IsEffect, AreColumns, IsReference, IsUnique, IsInvariant, IsRelation, IsNewName}
+use Rattle.ham_syntax.specs.Checked.{IsParamOf, IsId, IsIdOrAny, IsAmount, IsKey, IsOnRelation, IsOnCounter, IsGuard, IsEffect, AreColumns, IsReference, IsUnique, IsInvariant}
 use Rattle.ham_check.specs.Faults.{fault_if, entry_faults, same_kind, param_kinds, param_at, param_place, term_kinds, terms_kinds, id_kinds, ids_kinds, relation_place, counter_at, counter_place, wanted_kinds, relation_wanted, counter_wanted, on_counter_kinds, counter_part_kinds, on_relation_kinds, relation_part_kinds, verb_kinds, width_at, has_bad_column, reference_kinds, unique_kinds, form_kinds, is_guard_verb, is_effect_verb, has_twins}
-use Rattle.ham_check.specs.Resolved.{Meant, meant, resolved_term, resolved_key, resolved_amount, resolved_invariant, guard_of, effect_of}
-use Rattle.ham_check.proofs.Parts.{append-none, map-none, fault_if-none, not-false, or-none}
+use Rattle.ham_check.specs.Resolved.{meant, resolved_term, resolved_key, resolved_amount, resolved_invariant, guard_of, effect_of}
+use Rattle.ham_check.proofs.Parts.{append-none, fault_if-none, not-false, or-none}
 use Rattle.ham_check.proofs.Columns.{AreColumns-known}
 
 -- what each entry with no fault keeps, all of them have

@@ -285,9 +285,9 @@ faults raw =
     ++ entry_faults (method_faults relations raw.counters) [] raw.methods))
 
 -- the value where there is no fault, and else the first fault
-abbrev pub settled : {F A : Type 0} → List F → A → Result A F
-settled [] value = Ok value
-settled (fault ∷ faults) value = Err fault
+abbrev pub first_fault_or : {F A : Type 0} → List F → A → Result A F
+first_fault_or [] value = Ok value
+first_fault_or (fault ∷ faults) value = Err fault
 
 -- the same answer, where a fault has its place
 abbrev pub placed : {A : Type 0} → IllPlace → Result A IllKind → Result A CheckFault

@@ -30,7 +30,7 @@ fn is_bad_column(width: u8, before: &[u64], column: u64) -> bool
 fn resolve_columns(width: u8, columns: &[u64]) -> Result<Cols, IllKind>
     requires { width ≤ MAX_COLUMNS }
     ensures { result
-        ≡ faults.settled
+        ≡ faults.first_fault_or
         (faults.fault_if (faults.has_bad_column width [] columns.now) kinds.BadColumn)
         columns.now }
 {
@@ -63,7 +63,7 @@ fn resolve_reference(
     to: u8,
 ) -> Result<Cols, IllKind>
     requires { AllByRecursion IsRelation relations.now }
-    ensures { result ≡ faults.settled (faults.reference_kinds relations.now (Some from) columns.now (Some to)) columns.now }
+    ensures { result ≡ faults.first_fault_or (faults.reference_kinds relations.now (Some from) columns.now (Some to)) columns.now }
 {
     if from == to {
         return Err(IllKind::SelfReference);
@@ -76,7 +76,7 @@ fn resolve_reference(
 
 fn resolve_unique(relations: &[Relation], relation: u8, columns: &[u64]) -> Result<Cols, IllKind>
     requires { AllByRecursion IsRelation relations.now }
-    ensures { result ≡ faults.settled (faults.unique_kinds relations.now (Some relation) columns.now) columns.now }
+    ensures { result ≡ faults.first_fault_or (faults.unique_kinds relations.now (Some relation) columns.now) columns.now }
 {
     if columns.is_empty() {
         return Err(IllKind::BadArity);
@@ -93,7 +93,7 @@ fn resolve_form(
     requires each { AllByRecursion IsRelation relations.now }
     requires counters { length counters.now ≤ MAX_COUNTERS }
     ensures resolved { result
-        ≡ faults.settled
+        ≡ faults.first_fault_or
         (faults.form_kinds relations.now counters.now invariant.now)
         (resolved.resolved_invariant relations.now counters.now invariant.now) }
     ensures typed { IfOk result IsTypedInvariant }
@@ -143,7 +143,7 @@ pub(crate) fn resolve_invariant(
     requires each { AllByRecursion IsRelation relations.now }
     requires counters { length counters.now ≤ MAX_COUNTERS }
     ensures checked { result
-        ≡ faults.settled
+        ≡ faults.first_fault_or
         (faults.invariant_kinds relations.now counters.now before.now invariant.now)
         (resolved.resolved_invariant relations.now counters.now invariant.now) }
     ensures room { IfOk result (λ _. length before.now ≢ MAX_INVARIANTS) }

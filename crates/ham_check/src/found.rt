@@ -30,7 +30,7 @@ pub(crate) fn resolve_relation(
 ) -> Result<u8, IllKind>
     requires { length relations.now ≤ MAX_RELATIONS }
     ensures { result
-        ≡ faults.settled
+        ≡ faults.first_fault_or
         (faults.relation_wanted relations.now counters.now name.now)
         (resolved.relation_number relations.now name.now) }
 {
@@ -52,7 +52,7 @@ pub(crate) fn resolve_counter(
 ) -> Result<u8, IllKind>
     requires { length counters.now ≤ MAX_COUNTERS }
     ensures { result
-        ≡ faults.settled
+        ≡ faults.first_fault_or
         (faults.counter_wanted relations.now counters.now name.now)
         (resolved.counter_number counters.now name.now) }
 {

@@ -35,7 +35,7 @@ fn resolve_param(kind: Kind, params: &[Param], name: &Name) -> Result<Term, IllK
     requires { length params.now ≤ MAX_PARAMS }
     ensures resolved { let place = faults.param_place params.now name.now in
         result
-        ≡ faults.settled
+        ≡ faults.first_fault_or
         (faults.param_kinds kind (faults.param_at params.now place))
         (terms_of.Param (unwrap_or place 0)) }
     ensures typed { IfOk result IsTypedTerm }
@@ -52,7 +52,7 @@ fn resolve_param(kind: Kind, params: &[Param], name: &Name) -> Result<Term, IllK
 fn resolve_term(kind: Kind, params: &[Param], term: RawTerm) -> Result<Term, IllKind>
     requires { length params.now ≤ MAX_PARAMS }
     ensures resolved { result
-        ≡ faults.settled
+        ≡ faults.first_fault_or
         (faults.term_kinds kind params.now term)
         (resolved.resolved_term params.now term) }
     ensures typed { IfOk result IsTypedTerm }
@@ -76,7 +76,7 @@ fn resolve_key_and_amount(
 ) -> Result<(Option<Term>, Term), IllKind>
     requires { length params.now ≤ MAX_PARAMS }
     ensures resolved { result
-        ≡ faults.settled
+        ≡ faults.first_fault_or
         (faults.term_kinds kinds_of.Id params.now key ++ faults.term_kinds kinds_of.Amount params.now amount)
         (Some (resolved.resolved_term params.now key), resolved.resolved_term params.now amount) }
     ensures typed { IfOk result (λ r. IsTypedKey r.0 × IsTypedTerm r.1) }
@@ -93,7 +93,7 @@ fn resolve_terms(
 ) -> Result<(Option<Term>, Term), IllKind>
     requires { length params.now ≤ MAX_PARAMS }
     ensures resolved { result
-        ≡ faults.settled
+        ≡ faults.first_fault_or
         (faults.terms_kinds keyed params.now terms.now)
         (resolved.resolved_key params.now terms.now, resolved.resolved_amount params.now terms.now) }
     ensures typed { IfOk result (λ r. IsTypedKey r.0 × IsTypedTerm r.1) }
@@ -112,7 +112,7 @@ fn resolve_terms(
 fn resolve_id(any: bool, params: &[Param], term: RawTerm) -> Result<Term, IllKind>
     requires { length params.now ≤ MAX_PARAMS }
     ensures resolved { result
-        ≡ faults.settled (faults.id_kinds any params.now term) (resolved.resolved_term params.now term) }
+        ≡ faults.first_fault_or (faults.id_kinds any params.now term) (resolved.resolved_term params.now term) }
     ensures typed { IfOk result IsTypedTerm }
 {
     match term {
@@ -131,7 +131,7 @@ fn resolve_ids(any: bool, params: &[Param], terms: &[RawTerm]) -> Result<Terms, 
     requires params { length params.now ≤ MAX_PARAMS }
     requires terms { length terms.now ≤ MAX_COLUMNS }
     ensures resolved { result
-        ≡ faults.settled
+        ≡ faults.first_fault_or
         (faults.ids_kinds any params.now terms.now)
         (map (resolved.resolved_term params.now) terms.now) }
     ensures typed { IfOk result AreTyped }
@@ -154,7 +154,7 @@ fn resolve_row(
     requires each { AllByRecursion IsRelation relations.now }
     requires params { length params.now ≤ MAX_PARAMS }
     ensures resolved { result
-        ≡ faults.settled
+        ≡ faults.first_fault_or
         (faults.on_relation_kinds any relations.now params.now terms.now (Some relation))
         (map (resolved.resolved_term params.now) terms.now) }
     ensures typed { IfOk result AreTyped }
@@ -182,7 +182,7 @@ fn resolve_on_relation(
     requires each { AllByRecursion IsRelation relations.now }
     requires params { length params.now ≤ MAX_PARAMS }
     ensures resolved { result
-        ≡ faults.settled
+        ≡ faults.first_fault_or
         (faults.relation_part_kinds any relations.now counters.now params.now part.now)
         (record {
           relation = resolved.relation_number relations.now part.now.name;
@@ -212,7 +212,7 @@ fn resolve_amounts(
     requires params { length params.now ≤ MAX_PARAMS }
     requires within { counter < length counters.now }
     ensures resolved { result
-        ≡ faults.settled
+        ≡ faults.first_fault_or
         (faults.on_counter_kinds params.now terms.now (faults.counter_at counters.now (Some counter)))
         (resolved.resolved_key params.now terms.now, resolved.resolved_amount params.now terms.now) }
     ensures typed { IfOk result (λ r. IsTypedKey r.0 × IsTypedTerm r.1) }
@@ -230,7 +230,7 @@ fn resolve_on_counter(
     requires params { length params.now ≤ MAX_PARAMS }
     ensures resolved { let terms = part.now.terms in
         result
-        ≡ faults.settled
+        ≡ faults.first_fault_or
         (faults.counter_part_kinds relations.now counters.now params.now part.now)
         (record {
           counter = resolved.counter_number counters.now part.now.name;
@@ -259,7 +259,7 @@ pub(crate) fn resolve_guard(
     requires counters { length counters.now ≤ MAX_COUNTERS }
     requires params { length params.now ≤ MAX_PARAMS }
     ensures resolved { result
-        ≡ faults.settled
+        ≡ faults.first_fault_or
         (faults.part_kinds faults.is_guard_verb relations.now counters.now params.now part.now)
         (resolved.resolved_guard relations.now counters.now params.now part.now) }
     ensures typed { IfOk result IsTypedGuard }
@@ -316,7 +316,7 @@ pub(crate) fn resolve_effect(
     requires counters { length counters.now ≤ MAX_COUNTERS }
     requires params { length params.now ≤ MAX_PARAMS }
     ensures resolved { result
-        ≡ faults.settled
+        ≡ faults.first_fault_or
         (faults.part_kinds faults.is_effect_verb relations.now counters.now params.now part.now)
         (resolved.resolved_effect relations.now counters.now params.now part.now) }
     ensures typed { IfOk result IsTypedEffect }

@@ -15,13 +15,14 @@ use Rattle.ham_cli.specs.declared.exit.Exit.TheVariants as exits
 use Rattle.ham_cli.specs.declared.named.NamedClaim.{NamedClaim}
 use Rattle.ham_cli.specs.Exits.{IsCounted}
 use Rattle.ham_cli.specs.Commands.{Asked, Replays, Normalizes, Checks, Derives, Tabulates, asked}
-use Rattle.ham_cli.specs.Files.{HasFile, max_object, max_schedule}
+use Rattle.ham_syntax.specs.declared.limits.TheConstants.{MAX_OBJECT_BYTES, MAX_SCHEDULE_BYTES}
+use Rattle.ham_cli.specs.Files.{HasFile}
 use Rattle.ham_cli.specs.ReplayEnds.{EndsAtSchedule}
 use Rattle.ham_cli.specs.CheckEnds.{IsGoodText, ok_line, EndsWith, EndsAtFile}
 use Rattle.ham_cli.specs.DeriveEnds.{claim_named, none_line, EndsWithClaim, EndsWithNames}
 use Rattle.ham_cli.specs.TablesEnds.{EndsWithPlan}
 use Rattle.ham_cli.specs.Writes.{PutsMade}
-use Rattle.ham_cli.specs.Runs.{EndsAs, IsAllowed, Completes}
+use Rattle.ham_cli.specs.Top.{EndsAs, IsAllowed, Completes}
 use Rattle.ham_cli.proofs.Fine.{Fine, IsCalm, put_fine, made_fine, one_file, not_too_long, stops_fine, from_fine}
 
 -- what is refused isn't done
@@ -33,16 +34,16 @@ refused_there : (o p : Schema) (s t : List ℕ) → o ≡ p → s ≡ t → (pla
 refused_there o p s t e f none = subst (λ (x : List ℕ). (played p x).refused ≡ None) f (subst (λ (x : Schema). (played x s).refused ≡ None) e none)
 
 -- the schedule's lines are all allowed, so a replay doesn't end before their end but for a fault
-at_schedule : (files : List File) (name s : List ℕ) (o p : Schema) (before now : Option (List ℕ)) (exit : Exit) → o ≡ p → HasFile files name max_schedule s → (played o s).refused ≡ None
+at_schedule : (files : List File) (name s : List ℕ) (o p : Schema) (before now : Option (List ℕ)) (exit : Exit) → o ≡ p → HasFile files name MAX_SCHEDULE_BYTES s → (played o s).refused ≡ None
     → IsCalm exit → EndsAtSchedule p files name before now exit → Fine exit
 at_schedule files name s o p before now exits.Done same h none calm e = inl refl
 at_schedule files name s o p before now exits.Usage same h none calm e = absurd e
 at_schedule files name s o p before now exits.ObjectRefused same h none calm e = absurd e
-at_schedule files name s o p before now exits.ScheduleRefused same h none calm e = absurd (not_both (played p e.0).refused (refused_there o p s e.0 same (one_file files name max_schedule max_schedule s e.0 h e.1.file) none) e.2)
+at_schedule files name s o p before now exits.ScheduleRefused same h none calm e = absurd (not_both (played p e.0).refused (refused_there o p s e.0 same (one_file files name MAX_SCHEDULE_BYTES MAX_SCHEDULE_BYTES s e.0 h e.1.file) none) e.2)
 at_schedule files name s o p before now exits.ReadFault same h none calm e = absurd (calm.reads refl)
 at_schedule files name s o p before now exits.WriteFault same h none calm e = absurd (calm.writes refl)
 at_schedule files name s o p before now exits.NoMemory same h none calm e = inr refl
-at_schedule files name s o p before now exits.TooLong same h none calm e = absurd (not_too_long files name max_schedule s h e.0)
+at_schedule files name s o p before now exits.TooLong same h none calm e = absurd (not_too_long files name MAX_SCHEDULE_BYTES s h e.0)
 at_schedule files name s o p before now exits.DerivationRefused same h none calm e = absurd e
 
 -- the file is a good derivation's text, so it isn't refused
@@ -55,10 +56,10 @@ with_bytes o p bytes b before now exit same are good calm h = elim h [
   ]
 ]
 
-at_file : (files : List File) (name bytes : List ℕ) (o p : Schema) (before now : Option (List ℕ)) (exit : Exit) → o ≡ p → HasFile files name max_object bytes → IsGoodText o bytes → IsCalm exit → EndsAtFile p files name before now exit → Fine exit
+at_file : (files : List File) (name bytes : List ℕ) (o p : Schema) (before now : Option (List ℕ)) (exit : Exit) → o ≡ p → HasFile files name MAX_OBJECT_BYTES bytes → IsGoodText o bytes → IsCalm exit → EndsAtFile p files name before now exit → Fine exit
 at_file files name bytes o p before now exit same has good calm h = elim h [
-  | inl s ↦ stops_fine files name max_object bytes before now exit calm has s
-  | inr b ↦ with_bytes o p bytes b.0 before now exit same (one_file files name max_object max_object bytes b.0 has b.1) good calm b.2
+  | inl s ↦ stops_fine files name MAX_OBJECT_BYTES bytes before now exit calm has s
+  | inr b ↦ with_bytes o p bytes b.0 before now exit same (one_file files name MAX_OBJECT_BYTES MAX_OBJECT_BYTES bytes b.0 has b.1) good calm b.2
 ]
 
 -- the names are methods, so the claim isn't refused

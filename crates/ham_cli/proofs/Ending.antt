@@ -22,7 +22,8 @@ use Rattle.ham_cli.specs.declared.objects.Missing.{Missing}
 use Rattle.ham_cli.specs.declared.objects.Missing.TheVariants as missing
 use Rattle.ham_cli.specs.declared.refusal.Refusal.{Refusal}
 use Rattle.ham_cli.specs.declared.refusal.Refusal.TheVariants as refusals
-use Rattle.ham_cli.specs.Files.{is_want, HasFile, HasFault, ReadsObject, FindsObject, max_object}
+use Rattle.ham_syntax.specs.declared.limits.TheConstants.{MAX_OBJECT_BYTES}
+use Rattle.ham_cli.specs.Files.{is_want, HasFile, HasFault, ReadsObject, FindsObject}
 use Rattle.ham_cli.specs.Writes.{RunsOut, PutsMade, Stops, object_refusal, EndsAtObject, EndsFrom}
 use Rattle.ham_cli.specs.Refusals.{derivation_refusal}
 use Rattle.ham_cli.specs.CheckEnds.{IsVerdict, EndsWith}
@@ -72,17 +73,17 @@ has_file : (files : List File) (name bytes : List ℕ) (limit : ℕ) (file : Opt
 has_file files name bytes limit None is h = absurd h
 has_file files name bytes limit (Some file) is h = record { holds = is ∙ ap Some (sym h.0); within = subst (λ (x : List ℕ). length x ≤ limit) (sym h.0) h.1 }
 
-found_in : (files : List File) (name bytes : List ℕ) (r : Result Schema Missing) → HasFile files name max_object bytes → ReadsObject bytes r → FindsObject files name r
+found_in : (files : List File) (name bytes : List ℕ) (r : Result Schema Missing) → HasFile files name MAX_OBJECT_BYTES bytes → ReadsObject bytes r → FindsObject files name r
 found_in files name bytes (Ok o) has reads = record { bytes = bytes; file = has; text = reads }
 found_in files name bytes (Err (missing.Refused f)) has reads = record { bytes = bytes; file = has; first = reads }
 found_in files name bytes (Err (missing.Unread fetches.Failed)) has reads = tt
 found_in files name bytes (Err (missing.Unread (fetches.TooLong limit))) has reads = absurd reads
 found_in files name bytes (Err (missing.Unread fetches.NoMemory)) has reads = tt
 
-pub found : (held : Option (List File)) (name bytes text : List ℕ) (r : Result Schema Missing) → FetchesFrom held name max_object (Ok bytes) → text ≡ bytes → ReadsObject text r → IfSome held (λ files. FindsObject files name r)
+pub found : (held : Option (List File)) (name bytes text : List ℕ) (r : Result Schema Missing) → FetchesFrom held name MAX_OBJECT_BYTES (Ok bytes) → text ≡ bytes → ReadsObject text r → IfSome held (λ files. FindsObject files name r)
 found None name bytes text r fetched same reads = tt
 found (Some files) name bytes text r fetched same reads =
-    found_in files name bytes r (has_file files name bytes max_object (file_of files name) refl fetched) (subst (λ (x : List ℕ). ReadsObject x r) same reads)
+    found_in files name bytes r (has_file files name bytes MAX_OBJECT_BYTES (file_of files name) refl fetched) (subst (λ (x : List ℕ). ReadsObject x r) same reads)
 
 pub derived : (o : Schema) (claim : Claim) (reasons : List Reason) (before now : Option (List ℕ)) (exit : Exit) → AreFirst o claim reasons → IsGood o claim reasons → PutsMade before now (text_of o claim reasons) exits.Done exit → EndsWithClaim o claim before now exit
 derived o claim reasons before now exit first good puts = inr (inl (reasons, record { first = first; good = good }, puts))

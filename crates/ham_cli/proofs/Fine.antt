@@ -6,7 +6,8 @@ use Rattle.ham_forms.specs.declared.fault.FileFault.{FileFault}
 use Rattle.ham_objfile.specs.Texts.{IsText, IsAnsweredOnce}
 use Rattle.ham_cli.specs.declared.exit.Exit.{Exit}
 use Rattle.ham_cli.specs.declared.exit.Exit.TheVariants as exits
-use Rattle.ham_cli.specs.Files.{HasFile, HasObject, HasFault, IsTooLong, max_object}
+use Rattle.ham_syntax.specs.declared.limits.TheConstants.{MAX_OBJECT_BYTES}
+use Rattle.ham_cli.specs.Files.{HasFile, HasObject, HasFault, IsTooLong}
 use Rattle.ham_cli.specs.Writes.{Puts, PutsMade, Stops, EndsFrom}
 
 abbrev pub Fine : Exit → Type 0
@@ -60,21 +61,21 @@ not_both o e r s h k same = absurd cc
 
 no_fault : IsAnsweredOnce → (files : List File) (name : List ℕ) (o : Schema) (e : FileFault) → HasObject files name o → HasFault files name e → ⊥
 no_fault one files name o e h k =
-    not_both o e (Ok o) (Err e) refl refl (one k.bytes (Ok o) (Err e) (subst (λ (x : List ℕ). IsText x o) (one_file files name max_object max_object h.bytes k.bytes h.file k.file) h.text) k.first)
+    not_both o e (Ok o) (Err e) refl refl (one k.bytes (Ok o) (Err e) (subst (λ (x : List ℕ). IsText x o) (one_file files name MAX_OBJECT_BYTES MAX_OBJECT_BYTES h.bytes k.bytes h.file k.file) h.text) k.first)
 
 same_ok : (o p : Schema) (r s : Result Schema FileFault) → r ≡ Ok o → s ≡ Ok p → r ≡ s → o ≡ p
 same_ok o p r s h k e = cc
 
 same_object : IsAnsweredOnce → (files : List File) (name : List ℕ) (o p : Schema) → HasObject files name o → HasObject files name p → o ≡ p
 same_object one files name o p h k =
-    same_ok o p (Ok o) (Ok p) refl refl (one k.bytes (Ok o) (Ok p) (subst (λ (x : List ℕ). IsText x o) (one_file files name max_object max_object h.bytes k.bytes h.file k.file) h.text) k.text)
+    same_ok o p (Ok o) (Ok p) refl refl (one k.bytes (Ok o) (Ok p) (subst (λ (x : List ℕ). IsText x o) (one_file files name MAX_OBJECT_BYTES MAX_OBJECT_BYTES h.bytes k.bytes h.file k.file) h.text) k.text)
 
 -- there is an object, so a command goes on from it
 pub from_fine : IsAnsweredOnce → (files : List File) (name : List ℕ) (o : Schema) (before now : Option (List ℕ)) (exit : Exit) (Ends : Schema → Type 0) → IsCalm exit → HasObject files name o
     → ((p : Schema) → o ≡ p → Ends p → Fine exit) → EndsFrom files name before now exit Ends → Fine exit
 from_fine one files name o before now exit Ends calm has goes h = elim h [
   | inl at ↦ elim at [
-    | inl s ↦ stops_fine files name max_object has.bytes before now exit calm has.file s
+    | inl s ↦ stops_fine files name MAX_OBJECT_BYTES has.bytes before now exit calm has.file s
     | inr f ↦ absurd (no_fault one files name o f.0 has f.1)
   ]
   | inr f ↦ goes f.0 (same_object one files name o f.0 has f.1) f.2

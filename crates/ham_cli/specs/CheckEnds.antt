@@ -14,7 +14,8 @@ use Rattle.ham_cli.specs.declared.exit.Exit.{Exit}
 use Rattle.ham_cli.specs.declared.exit.Exit.TheVariants as exits
 use Rattle.ham_cli.specs.declared.refusal.Refusal.{Refusal}
 use Rattle.ham_cli.specs.declared.refusal.Refusal.TheVariants as refusals
-use Rattle.ham_cli.specs.Files.{HasFile, max_object}
+use Rattle.ham_syntax.specs.declared.limits.TheConstants.{MAX_OBJECT_BYTES}
+use Rattle.ham_cli.specs.Files.{HasFile}
 use Rattle.ham_cli.specs.Writes.{RunsOut, Puts, PutsMade, Stops, EndsFrom}
 use Rattle.ham_cli.specs.Refusals.{derivation_refusal}
 
@@ -71,8 +72,8 @@ EndsWith o bytes before now exit = RunsOut before now exit ⊎ (EndsAsProof o by
 -- the file gives no bytes, or it has some
 abbrev pub EndsAtFile : Schema → List File → List ℕ → Option (List ℕ) → Option (List ℕ) → Exit → Type 0
 EndsAtFile o files name before now exit =
-    Stops files name max_object before now exit
-    ⊎ ((bytes : List ℕ) × HasFile files name max_object bytes × EndsWith o bytes before now exit)
+    Stops files name MAX_OBJECT_BYTES before now exit
+    ⊎ ((bytes : List ℕ) × HasFile files name MAX_OBJECT_BYTES bytes × EndsWith o bytes before now exit)
 
 abbrev pub EndsCheck : List File → List ℕ → List ℕ → Option (List ℕ) → Option (List ℕ) → Exit → Type 0
 EndsCheck files object file before now exit = EndsFrom files object before now exit (λ o. EndsAtFile o files file before now exit)

@@ -3,6 +3,7 @@
 use Rattle.std.specs.Prelude.{ℕ, ◌<◌, ◌≤◌, nat_le, ◌&&◌, List, [], ◌∷◌, Option, Some, None, option_and_then, option_map, if◌then◌else◌, codes}
 use Rattle.std.specs.List.{list_all}
 use Rattle.std.specs.Str.{bytes_eq, is_utf8}
+use Rattle.ham_syntax.specs.declared.limits.TheConstants.{MAX_REPLICAS}
 use Rattle.ham_text.specs.Numbers.{number_of}
 use Rattle.ham_syntax.specs.Names.{is_name}
 use Rattle.ham_cli.specs.declared.command.Command.{Command}
@@ -38,9 +39,9 @@ claim_on_two kind m n = if is_name m && is_name n then claim_of_kind kind m n el
 
 -- ---- replicas
 
--- a number from 1 to 8
+-- a number of replicas
 abbrev pub few_of : ℕ → Option ℕ
-few_of n = if nat_le 1 n && nat_le n 8 then Some n else None
+few_of n = if nat_le 1 n && nat_le n MAX_REPLICAS then Some n else None
 
 unfoldable pub replicas_of : List ℕ → Option ℕ
 replicas_of word = option_and_then few_of (number_of word)
@@ -84,9 +85,9 @@ seen (commands.Check object file) = Checks object.now file.now
 seen (commands.Derive object claim) = Derives object.now claim
 seen (commands.Tables object replicas) = Tabulates object.now replicas
 
--- its replicas, where it has some, are 1 to 8
+-- its replicas, where it has some, are at least one and not too many
 abbrev pub HasReplicas : Command → Type 0
-HasReplicas (commands.Tables object replicas) = (0 < replicas) × (replicas ≤ 8)
+HasReplicas (commands.Tables object replicas) = (0 < replicas) × (replicas ≤ MAX_REPLICAS)
 HasReplicas (commands.Replay object schedule) = Unit {0}
 HasReplicas (commands.Normal object) = Unit {0}
 HasReplicas (commands.Check object file) = Unit {0}

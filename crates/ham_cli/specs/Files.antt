@@ -1,5 +1,6 @@
 -- Files on a shelf: within their limit, and objects among them.
 use Rattle.std.specs.Prelude.{◌≡◌, ℕ, ◌<◌, ◌≤◌, Bool, true, false, List, length, Some, Result, Ok, Err}
+use Rattle.ham_syntax.specs.declared.limits.TheConstants.{MAX_OBJECT_BYTES}
 use Rattle.ham_syntax.specs.Objects.{Schema}
 use Rattle.ham_bytes.specs.Causes.{Rose}
 use Rattle.ham_bytes.specs.Outside.{file_of}
@@ -10,13 +11,6 @@ use Rattle.ham_forms.specs.declared.fault.FileFault.TheVariants as faults
 use Rattle.ham_objfile.specs.Texts.{IsText, IsFirstFault}
 use Rattle.ham_cli.specs.declared.objects.Missing.{Missing}
 use Rattle.ham_cli.specs.declared.objects.Missing.TheVariants as missing
-
--- the longest object or derivation, and the longest schedule, in bytes
-abbrev pub max_object : ℕ
-max_object = 1048576
-
-abbrev pub max_schedule : ℕ
-max_schedule = 67108864
 
 -- a file of this name holds these bytes, not too many
 pub record HasFile (files : List File) (name : List ℕ) (limit : ℕ) (bytes : List ℕ) : Type 0 where
@@ -30,13 +24,13 @@ IsTooLong files name limit = (bytes : List ℕ) × (file_of files name ≡ Some 
 -- a file of this name is a text of this object
 pub record HasObject (files : List File) (name : List ℕ) (o : Schema) : Type 0 where
   pub bytes : List ℕ
-  pub file : HasFile files name max_object bytes
+  pub file : HasFile files name MAX_OBJECT_BYTES bytes
   pub text : IsText bytes o
 
 -- a file of this name is a text of no object, and this is its first fault
 pub record HasFault (files : List File) (name : List ℕ) (fault : FileFault) : Type 0 where
   pub bytes : List ℕ
-  pub file : HasFile files name max_object bytes
+  pub file : HasFile files name MAX_OBJECT_BYTES bytes
   pub first : IsFirstFault bytes fault
 
 -- it was memory that was wanting
@@ -56,7 +50,7 @@ ReadsObject bytes (Err (missing.Unread (fetches.TooLong limit))) = ⊥
 abbrev pub FindsObject : List File → List ℕ → Result Schema Missing → Type 0
 FindsObject files name (Ok o) = HasObject files name o
 FindsObject files name (Err (missing.Refused fault)) = HasFault files name fault
-FindsObject files name (Err (missing.Unread (fetches.TooLong limit))) = IsTooLong files name max_object
+FindsObject files name (Err (missing.Unread (fetches.TooLong limit))) = IsTooLong files name MAX_OBJECT_BYTES
 FindsObject files name (Err (missing.Unread fetches.Failed)) = Unit {0}
 FindsObject files name (Err (missing.Unread fetches.NoMemory)) = Unit {0}
 

@@ -8,7 +8,7 @@ pub mod NormalEnds
 pub mod CheckEnds
 pub mod DeriveEnds
 pub mod TablesEnds
-pub mod Runs
+pub mod Top
 pub use Rattle.ham_syntax.specs.Objects
 pub use Rattle.ham_bytes.specs.Outside
 pub use Rattle.ham_bytes.specs.Causes

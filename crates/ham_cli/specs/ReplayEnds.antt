@@ -7,12 +7,13 @@ use Rattle.ham_world.specs.Headline.{IsFaithful}
 use Rattle.ham_replay.specs.Replays.{played}
 use Rattle.ham_cli.specs.declared.exit.Exit.{Exit}
 use Rattle.ham_cli.specs.declared.exit.Exit.TheVariants as exits
-use Rattle.ham_cli.specs.Files.{HasFile, IsTooLong, max_schedule}
+use Rattle.ham_syntax.specs.declared.limits.TheConstants.{MAX_SCHEDULE_BYTES}
+use Rattle.ham_cli.specs.Files.{HasFile, IsTooLong}
 use Rattle.ham_cli.specs.Writes.{Nothing, EndsFrom}
 
 -- a schedule of this name is played: the run that it makes is faithful
 pub record Plays (o : Schema) (files : List File) (name schedule : List ℕ) : Type 0 where
-  pub file : HasFile files name max_schedule schedule
+  pub file : HasFile files name MAX_SCHEDULE_BYTES schedule
   pub faithful : IsFaithful (played o schedule).run
 
 abbrev pub EndsAtSchedule : Schema → List File → List ℕ → Option (List ℕ) → Option (List ℕ) → Exit → Type 0
@@ -22,7 +23,7 @@ EndsAtSchedule o files name before now exits.ScheduleRefused =
     (s : List ℕ) × Plays o files name s × IsSome (played o s).refused × TakesWhole before now (played o s).text
 EndsAtSchedule o files name before now exits.WriteFault = (s : List ℕ) × Plays o files name s × TakesSome before now (played o s).text
 EndsAtSchedule o files name before now exits.NoMemory = Nothing before now ⊎ ((s : List ℕ) × Plays o files name s × TakesSome before now (played o s).text)
-EndsAtSchedule o files name before now exits.TooLong = IsTooLong files name max_schedule × Nothing before now
+EndsAtSchedule o files name before now exits.TooLong = IsTooLong files name MAX_SCHEDULE_BYTES × Nothing before now
 EndsAtSchedule o files name before now exits.ReadFault = Nothing before now
 EndsAtSchedule o files name before now exits.ObjectRefused = ⊥
 EndsAtSchedule o files name before now exits.DerivationRefused = ⊥

@@ -7,7 +7,8 @@ use Rattle.ham_forms.specs.FaultTexts.{fault_text}
 use Rattle.ham_syntax.specs.Objects.{Schema}
 use Rattle.ham_cli.specs.declared.exit.Exit.{Exit}
 use Rattle.ham_cli.specs.declared.exit.Exit.TheVariants as exits
-use Rattle.ham_cli.specs.Files.{IsTooLong, HasObject, HasFault, max_object}
+use Rattle.ham_syntax.specs.declared.limits.TheConstants.{MAX_OBJECT_BYTES}
+use Rattle.ham_cli.specs.Files.{IsTooLong, HasObject, HasFault}
 
 -- nothing was written
 abbrev pub Nothing : Option (List ℕ) → Option (List ℕ) → Type 0
@@ -51,7 +52,7 @@ object_refusal fault = line_of (codes "object refused: ") (fault_text fault)
 -- the object's file gives no bytes, or has a fault, which was told
 abbrev pub EndsAtObject : List File → List ℕ → Option (List ℕ) → Option (List ℕ) → Exit → Type 0
 EndsAtObject files name before now exit =
-    Stops files name max_object before now exit
+    Stops files name MAX_OBJECT_BYTES before now exit
     ⊎ ((fault : FileFault) × HasFault files name fault × Puts before now (object_refusal fault) exits.ObjectRefused exit)
 
 -- a command ends at its object, or has one and ends as is said of that object

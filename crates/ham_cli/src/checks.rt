@@ -6,12 +6,13 @@ ghost use Rattle.ham_cli.specs.CheckEnds as check_ends;
 ghost use Rattle.ham_cli.specs.Exits.{IsCounted, IsSinkCounted};
 
 use crate::exit::{Exit, exit_of_fetch};
-use crate::objects::{MAX_OBJECT, fetch_object, tell_missing};
+use crate::objects::{fetch_object, tell_missing};
 use crate::refusal::Refusal;
 use crate::writes::{put_made, put_text};
 use ham_bytes::{Shelf, Sink};
 use ham_derive::laws::derivations_read_back;
 use ham_derive::{TextFault, check, read_text};
+use ham_syntax::limits::MAX_OBJECT_BYTES;
 use ham_syntax::{NoMemory, Object};
 use std::alloc::Global;
 
@@ -43,7 +44,7 @@ fn check_file<H: Shelf, K: Sink>(
     ensures ends { IfSome (H.held shelf.old) (λ files. check_ends.EndsAtFile object.now files file.now (K.taken out.old) (K.taken out.new) result) }
     ensures counted { IsCounted (H.faults shelf.old) (H.faults shelf.new) (K.faults out.old) (K.faults out.new) result }
 {
-    match shelf.fetch(alloc, file, MAX_OBJECT) {
+    match shelf.fetch(alloc, file, MAX_OBJECT_BYTES) {
         Ok(bytes) => tell_verdict(alloc, object, bytes.items(), out),
         Err(fault) => exit_of_fetch(fault),
     }

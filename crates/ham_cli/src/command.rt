@@ -6,6 +6,7 @@ ghost use Rattle.std.specs.Str.{is_utf8};
 ghost use Rattle.ham_cli.specs.Commands as commands;
 
 use crate::named::NamedClaim;
+use ham_syntax::limits::MAX_REPLICAS;
 use ham_syntax::Word;
 use ham_text::number;
 
@@ -108,14 +109,14 @@ fn on_claim<'a>(verb: &[u8], object: &'a [u8], claim: Option<NamedClaim>) -> Opt
     }
 }
 
-/// A number of replicas, from 1 to 8.
+/// A number of replicas, from 1 to `MAX_REPLICAS`.
 #[tactic(auto, unfolding(crate::specs::Commands::replicas_of))]
 fn replicas_of(word: &[u8]) -> Option<u8>
     ensures replicas { result ≡ commands.replicas_of word.now }
-    ensures few { IfSome result (λ n. (0 < n) × (n ≤ 8)) }
+    ensures few { IfSome result (λ n. (0 < n) × (n ≤ MAX_REPLICAS)) }
 {
     let n = number(word)?;
-    if 1 <= n && n <= 8 {
+    if 1 <= n && n <= MAX_REPLICAS as u64 {
         Some(n as u8)
     } else {
         None

@@ -10,11 +10,9 @@ use crate::exit::{Exit, exit_of_fetch};
 use crate::writes::{put_made, refusal_line};
 use ham_bytes::{FetchFault, Shelf, Sink};
 use ham_objfile::{FileFault, read};
+use ham_syntax::limits::MAX_OBJECT_BYTES;
 use ham_syntax::{Bytes, NoMemory, Object};
 use std::alloc::Global;
-
-/// The longest object, in bytes.
-pub const MAX_OBJECT: u64 = 1_048_576;
 
 /// Why there is no object.
 #[derive(Drop)]
@@ -32,7 +30,7 @@ pub fn fetch_object<H: Shelf>(alloc: Global, name: &[u8], shelf: &mut H) -> Resu
     ensures later { H.faults shelf.old ≤ H.faults shelf.new }
     ensures counted { IsFindingCounted (H.faults shelf.old) (H.faults shelf.new) result }
 {
-    let bytes = match shelf.fetch(alloc, name, MAX_OBJECT) {
+    let bytes = match shelf.fetch(alloc, name, MAX_OBJECT_BYTES) {
         Ok(bytes) => bytes,
         Err(fault) => return Err(Missing::Unread(fault)),
     };

@@ -9,11 +9,9 @@ use crate::exit::{Exit, exit_of_fetch};
 use crate::objects::{fetch_object, tell_missing};
 use ham_bytes::{Shelf, Sink};
 use ham_replay::{ReplayEnd, replay};
+use ham_syntax::limits::MAX_SCHEDULE_BYTES;
 use ham_syntax::Object;
 use std::alloc::Global;
-
-/// The longest schedule, in bytes.
-pub const MAX_SCHEDULE: u64 = 67_108_864;
 
 /// Fetches and reads the object, then fetches the schedule and writes the text of the run that it makes.
 pub fn run_replay<H: Shelf, K: Sink>(
@@ -43,7 +41,7 @@ fn replay_file<H: Shelf, K: Sink>(
     ensures ends { IfSome (H.held shelf.old) (λ files. replay_ends.EndsAtSchedule object.now files schedule.now (K.taken out.old) (K.taken out.new) result) }
     ensures counted { IsCounted (H.faults shelf.old) (H.faults shelf.new) (K.faults out.old) (K.faults out.new) result }
 {
-    let bytes = match shelf.fetch(alloc, schedule, MAX_SCHEDULE) {
+    let bytes = match shelf.fetch(alloc, schedule, MAX_SCHEDULE_BYTES) {
         Ok(bytes) => bytes,
         Err(fault) => return exit_of_fetch(fault),
     };

@@ -9,6 +9,7 @@ use crate::objects::{fetch_object, tell_missing};
 use crate::writes::put_made;
 use ham_bytes::{Shelf, Sink};
 use ham_syntax::Object;
+use ham_syntax::limits::MAX_REPLICAS;
 use ham_tables::{plan_of, print_tables};
 use std::alloc::Global;
 
@@ -21,7 +22,7 @@ pub fn run_tables<H: Shelf, K: Sink>(
     out: &mut K,
 ) -> Exit
     requires some_replicas { 0 < replicas }
-    requires few_replicas { replicas ≤ 8 }
+    requires few_replicas { replicas ≤ MAX_REPLICAS }
     ensures ends { IfSome (H.held shelf.old) (λ files. tables_ends.EndsTables files object.now replicas (K.taken out.old) (K.taken out.new) result) }
     ensures counted { IsCounted (H.faults shelf.old) (H.faults shelf.new) (K.faults out.old) (K.faults out.new) result }
 {
@@ -33,7 +34,7 @@ pub fn run_tables<H: Shelf, K: Sink>(
 
 fn put_tables<K: Sink>(alloc: Global, object: &Object, replicas: u8, out: &mut K) -> Exit
     requires some_replicas { 0 < replicas }
-    requires few_replicas { replicas ≤ 8 }
+    requires few_replicas { replicas ≤ MAX_REPLICAS }
     ensures ends { tables_ends.EndsWithPlan object.now replicas (K.taken out.old) (K.taken out.new) result }
     ensures counted { IsSinkCounted (K.faults out.old) (K.faults out.new) result }
 {

@@ -4,7 +4,7 @@ ghost use Rattle.std.specs.Prelude.{◌≡◌, ◌≤◌, Some, IfSome};
 ghost use Rattle.ham_bytes.specs.Causes.{Rose};
 ghost use Rattle.ham_cli.specs.Commands.{seen, HasReplicas};
 ghost use Rattle.ham_cli.specs.Exits.{IsCounted};
-ghost use Rattle.ham_cli.specs.Runs as runs;
+ghost use Rattle.ham_cli.specs.Top as runs;
 
 use crate::checks::run_check;
 use crate::command::{Command, command_of};

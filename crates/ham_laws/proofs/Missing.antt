@@ -1,12 +1,11 @@
 -- Acts of methods that an object doesn't have: there are none that fit.
-use Rattle.std.proofs.Common.{◌≡◌, ◌⊎◌, ℕ, ◌<◌, ◌≤◌, Bool, true, false, ltb, List, length, Option, Some, None, refl, inr, sym, subst, ◌∙◌, true≢false}
+use Rattle.std.proofs.Common.{◌≡◌, ℕ, ◌<◌, false, length, Option, Some, None, refl, inr, sym, subst, ◌∙◌, true≢false}
 use Rattle.std.specs.Prelude.{slice_get, IsTrue}
-use Rattle.std.proofs.lemmas.Bool.{ltb-true, ltb-false}
 use Rattle.std.proofs.lemmas.Option.{slice_get_within}
 use Rattle.ham_syntax.specs.declared.act.Act.{Act}
 use Rattle.ham_syntax.specs.declared.object.Method.{Method}
 use Rattle.ham_syntax.specs.Objects.{Schema, args_fit, method_fits}
-use Rattle.ham_meaning.specs.Relations.{IsActOf, StateCommute, InvariantSufficient, PermissibleRight, PermissibleLeft}
+use Rattle.ham_meaning.specs.Relations.{IsActOf}
 use Rattle.ham_meaning.specs.OfObjects.{meaning}
 use Rattle.ham_laws.specs.Executions.{IsSound}
 use Rattle.ham_plan.specs.Plans.{Plan, IsPlan, conflicts, depends_on}

@@ -7,6 +7,3 @@ pub mod words;
 pub use answer::{Answer, text};
 pub use ham_text::number;
 pub use words::split;
-
-#[cfg(test)]
-mod tests;

@@ -12,7 +12,7 @@ use Rattle.ham_world.specs.Headline.{IsFaithful}
 use Rattle.ham_replay.specs.declared.line.Line.{Line}
 use Rattle.ham_replay.specs.declared.line.Line.TheVariants.{Replicas, Act, Show, Rows}
 use Rattle.ham_replay.specs.Lines.{line_of}
-use Rattle.ham_replay.specs.Replays.{Turn, Refuses, Answers, turn_at, turn_of, event_turn, begun, is_replicas, played_from, played_lines, played, then_played, refused_at, answer_line}
+use Rattle.ham_replay.specs.Replays.{LineOutcome, Refuses, Answers, outcome_at, outcome_of_line, event_outcome, begun, is_replicas, played_from, played_lines, played, then_played, refused_at, answer_line}
 use Rattle.ham_replay.specs.declared.end.LineRefusal.TheVariants.{NotYet}
 use Rattle.ham_lines.specs.declared.answer.Answer.TheVariants as answers
 use Rattle.ham_text.specs.Cuts.{lines_of}
@@ -26,35 +26,35 @@ pub record IsRunOf (o : Schema) (r : Run) : Type 0 where
   pub of : r.object ≡ o
   pub run : IsRun r.object r.notes
 
-after_event : GoesOn → (o : Schema) (r new : Run) (e : Event) (a : Answer) (why : Option StepRefusal) → refusal_of r e ≡ why → event_turn r e why ≡ Answers new a → IsRunOf o r → IsRunOf o new
+after_event : GoesOn → (o : Schema) (r new : Run) (e : Event) (a : Answer) (why : Option StepRefusal) → refusal_of r e ≡ why → event_outcome r e why ≡ Answers new a → IsRunOf o r → IsRunOf o new
 after_event go o r new e a None is turned h = subst (IsRunOf o) (let same : noted r (note_of r e) ≡ new = cc in same) (record { of = h.of; run = go r e h.run is })
 after_event go o r new e a (Some why) is turned h = absurd cc
 
-after_line : GoesOn → (o : Schema) (r new : Run) (a : Answer) (found : Option Line) → turn_at r found ≡ Answers new a → IsRunOf o r → IsRunOf o new
+after_line : GoesOn → (o : Schema) (r new : Run) (a : Answer) (found : Option Line) → outcome_at r found ≡ Answers new a → IsRunOf o r → IsRunOf o new
 after_line go o r new a None turned h = absurd cc
 after_line go o r new a (Some Replicas) turned h = absurd cc
 after_line go o r new a (Some (Show c key)) turned h = subst (IsRunOf o) (let same : r ≡ new = cc in same) h
 after_line go o r new a (Some (Rows q)) turned h = subst (IsRunOf o) (let same : r ≡ new = cc in same) h
 after_line go o r new a (Some (Act e)) turned h = after_event go o r new e a (refusal_of r e) refl turned h
 
-after_turn : GoesOn → (o : Schema) (r new : Run) (l : List ℕ) (a : Answer) → turn_of r l ≡ Answers new a → IsRunOf o r → IsRunOf o new
-unfolding turn_of
-after_turn go o r new l a turned h = after_line go o r new a (line_of r.object l) turned h
+after_outcome : GoesOn → (o : Schema) (r new : Run) (l : List ℕ) (a : Answer) → outcome_of_line r l ≡ Answers new a → IsRunOf o r → IsRunOf o new
+unfolding outcome_of_line
+after_outcome go o r new l a turned h = after_line go o r new a (line_of r.object l) turned h
 
-played_by : (number : ℕ) (r : Run) (l : List ℕ) (ls : List (List ℕ)) (t : Turn) → turn_of r l ≡ t → (played_from number r (l ∷ ls)).run ≡ (elim t [ Refuses why ↦ r | Answers new a ↦ (played_from (number + 1) new ls).run ])
+played_by : (number : ℕ) (r : Run) (l : List ℕ) (ls : List (List ℕ)) (t : LineOutcome) → outcome_of_line r l ≡ t → (played_from number r (l ∷ ls)).run ≡ (elim t [ Refuses why ↦ r | Answers new a ↦ (played_from (number + 1) new ls).run ])
 unfolding played_from
 played_by number r l ls (Refuses why) e = rw (played_from, e) refl
 played_by number r l ls (Answers new a) e = rw (played_from, e) refl
 
-after_by : GoesOn → (o : Schema) (number : ℕ) (r : Run) (l : List ℕ) (ls : List (List ℕ)) (t : Turn) → turn_of r l ≡ t → IsRunOf o r → ((new : Run) → IsRunOf o new → IsRunOf o (played_from (number + 1) new ls).run)
+after_by : GoesOn → (o : Schema) (number : ℕ) (r : Run) (l : List ℕ) (ls : List (List ℕ)) (t : LineOutcome) → outcome_of_line r l ≡ t → IsRunOf o r → ((new : Run) → IsRunOf o new → IsRunOf o (played_from (number + 1) new ls).run)
     → IsRunOf o (played_from number r (l ∷ ls)).run
 after_by go o number r l ls (Refuses why) e h rest = subst (IsRunOf o) (sym (played_by number r l ls (Refuses why) e)) h
-after_by go o number r l ls (Answers new a) e h rest = subst (IsRunOf o) (sym (played_by number r l ls (Answers new a) e)) (rest new (after_turn go o r new l a e h))
+after_by go o number r l ls (Answers new a) e h rest = subst (IsRunOf o) (sym (played_by number r l ls (Answers new a) e)) (rest new (after_outcome go o r new l a e h))
 
 after_lines : GoesOn → (o : Schema) (number : ℕ) (r : Run) (ls : List (List ℕ)) → IsRunOf o r → IsRunOf o (played_from number r ls).run
 unfolding played_from
 after_lines go o number r [] h = h
-after_lines go o number r (l ∷ ls) h = after_by go o number r l ls (turn_of r l) refl h (λ new k. after_lines go o (number + 1) new ls k)
+after_lines go o number r (l ∷ ls) h = after_by go o number r l ls (outcome_of_line r l) refl h (λ new k. after_lines go o (number + 1) new ls k)
 
 begun_is : (o : Schema) → IsRunOf o (begun o)
 begun_is o = record { of = refl; run = tt }

@@ -15,27 +15,27 @@ use Rattle.ham_replay.specs.Lines.{line_of}
 use Rattle.ham_syntax.specs.Objects.{Schema}
 use Rattle.ham_lines.specs.declared.answer.Answer.TheVariants as answers
 use Rattle.ham_replay.specs.declared.end.Stop.{Stop}
-use Rattle.ham_replay.specs.declared.turn.LineEnd.TheVariants.{Answered, Refused}
-use Rattle.ham_replay.specs.Ends.{IsTurn, Gathers}
-use Rattle.ham_replay.specs.Replays.{Turn, Refuses, Answers, Played, turn_of, answer_line, refused_at, then_played, played_from, begun, is_replicas, played, played_lines}
+use Rattle.ham_replay.specs.declared.outcome.LineEnd.TheVariants.{Answered, Refused}
+use Rattle.ham_replay.specs.Ends.{IsOutcomeOf, Gathers}
+use Rattle.ham_replay.specs.Replays.{LineOutcome, Refuses, Answers, Played, outcome_of_line, answer_line, refused_at, then_played, played_from, begun, is_replicas, played, played_lines}
 
 -- ---- one line more of what is played
 
-answers_by : (t : Turn) (new : Run) (a : Answer) → IsTurn new t (Answered a) → t ≡ Answers new a
+answers_by : (t : LineOutcome) (new : Run) (a : Answer) → IsOutcomeOf new t (Answered a) → t ≡ Answers new a
 answers_by (Answers r answer) new a h = ap (λ (x : Answer). Answers r x) (sym h.0) ∙ ap (λ (x : Run). Answers x a) (sym h.1)
 answers_by (Refuses why) new a h = absurd h
 
-refuses_by : (t : Turn) (new : Run) (why : LineRefusal) → IsTurn new t (Refused why) → t ≡ Refuses why
+refuses_by : (t : LineOutcome) (new : Run) (why : LineRefusal) → IsOutcomeOf new t (Refused why) → t ≡ Refuses why
 refuses_by (Refuses reason) new why h = ap Refuses (sym h)
 refuses_by (Answers r answer) new why h = absurd h
 
-played_answered : (number : ℕ) (r new : Run) (l : List ℕ) (ls : List (List ℕ)) (a : Answer) → IsTurn new (turn_of r l) (Answered a) → played_from number r (l ∷ ls) ≡ then_played (answer_line a) (played_from (number + 1) new ls)
+played_answered : (number : ℕ) (r new : Run) (l : List ℕ) (ls : List (List ℕ)) (a : Answer) → IsOutcomeOf new (outcome_of_line r l) (Answered a) → played_from number r (l ∷ ls) ≡ then_played (answer_line a) (played_from (number + 1) new ls)
 unfolding played_from
-played_answered number r new l ls a h = rw (played_from, answers_by (turn_of r l) new a h) refl
+played_answered number r new l ls a h = rw (played_from, answers_by (outcome_of_line r l) new a h) refl
 
-played_refused : (number : ℕ) (r new : Run) (l : List ℕ) (ls : List (List ℕ)) (why : LineRefusal) → IsTurn new (turn_of r l) (Refused why) → played_from number r (l ∷ ls) ≡ refused_at r (record { line = number; why = why })
+played_refused : (number : ℕ) (r new : Run) (l : List ℕ) (ls : List (List ℕ)) (why : LineRefusal) → IsOutcomeOf new (outcome_of_line r l) (Refused why) → played_from number r (l ∷ ls) ≡ refused_at r (record { line = number; why = why })
 unfolding played_from
-played_refused number r new l ls why h = rw (played_from, refuses_by (turn_of r l) new why h) refl
+played_refused number r new l ls why h = rw (played_from, refuses_by (outcome_of_line r l) new why h) refl
 
 played_none : (number : ℕ) (r : Run) → played_from number r [] ≡ record { text = answer_line End; refused = None; run = r }
 unfolding played_from
@@ -48,10 +48,10 @@ ended number r [] e = played_none number r
 ended number r (b ∷ bs) e = absurd (omega arith)
 
 -- the lines that are left, by the first of them
-pub next_answered : (number : ℕ) (r new : Run) (rest line after : List ℕ) (a : Answer) → lines_of rest ≡ line ∷ lines_of after → IsTurn new (turn_of r line) (Answered a) → played_from number r (lines_of rest) ≡ then_played (answer_line a) (played_from (number + 1) new (lines_of after))
+pub next_answered : (number : ℕ) (r new : Run) (rest line after : List ℕ) (a : Answer) → lines_of rest ≡ line ∷ lines_of after → IsOutcomeOf new (outcome_of_line r line) (Answered a) → played_from number r (lines_of rest) ≡ then_played (answer_line a) (played_from (number + 1) new (lines_of after))
 next_answered number r new rest line after a e h = ap (played_from number r) e ∙ played_answered number r new line (lines_of after) a h
 
-pub next_refused : (number : ℕ) (r new : Run) (rest line after : List ℕ) (why : LineRefusal) → lines_of rest ≡ line ∷ lines_of after → IsTurn new (turn_of r line) (Refused why) → played_from number r (lines_of rest) ≡ refused_at r (record { line = number; why = why })
+pub next_refused : (number : ℕ) (r new : Run) (rest line after : List ℕ) (why : LineRefusal) → lines_of rest ≡ line ∷ lines_of after → IsOutcomeOf new (outcome_of_line r line) (Refused why) → played_from number r (lines_of rest) ≡ refused_at r (record { line = number; why = why })
 next_refused number r new rest line after why e h = ap (played_from number r) e ∙ played_refused number r new line (lines_of after) why h
 
 -- ---- what was sent so far, and what is left

@@ -8,16 +8,16 @@ use Rattle.ham_replay.specs.declared.end.Stop.{Stop}
 use Rattle.ham_replay.specs.declared.end.Stop.TheVariants.{Sink, Memory}
 use Rattle.ham_replay.specs.declared.end.ReplayEnd.{ReplayEnd}
 use Rattle.ham_replay.specs.declared.end.ReplayEnd.TheVariants as ends
-use Rattle.ham_replay.specs.declared.turn.LineEnd.{LineEnd}
-use Rattle.ham_replay.specs.declared.turn.LineEnd.TheVariants.{Answered, Refused}
-use Rattle.ham_replay.specs.Replays.{Turn, Refuses, Answers, Played}
+use Rattle.ham_replay.specs.declared.outcome.LineEnd.{LineEnd}
+use Rattle.ham_replay.specs.declared.outcome.LineEnd.TheVariants.{Answered, Refused}
+use Rattle.ham_replay.specs.Replays.{LineOutcome, Refuses, Answers, Played}
 
--- what a line came to is its turn: the refusal, or the answer and the run that it leaves
-abbrev pub IsTurn : Run → Turn → LineEnd → Type 0
-IsTurn new (Refuses why) (Refused reason) = reason ≡ why
-IsTurn new (Answers r answer) (Answered a) = (a ≡ answer) × (new ≡ r)
-IsTurn new (Refuses why) (Answered a) = ⊥
-IsTurn new (Answers r answer) (Refused reason) = ⊥
+-- what a line came to is its outcome: the refusal, or the answer and the run that it leaves
+abbrev pub IsOutcomeOf : Run → LineOutcome → LineEnd → Type 0
+IsOutcomeOf new (Refuses why) (Refused reason) = reason ≡ why
+IsOutcomeOf new (Answers r answer) (Answered a) = (a ≡ answer) × (new ≡ r)
+IsOutcomeOf new (Refuses why) (Answered a) = ⊥
+IsOutcomeOf new (Answers r answer) (Refused reason) = ⊥
 
 -- a replay is done, or refused at a line, exactly as what is played
 abbrev pub EndsAs : Played → ReplayEnd → Type 0

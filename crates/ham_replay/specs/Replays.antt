@@ -27,9 +27,9 @@ use Rattle.ham_replay.specs.Lines.{line_of}
 -- ---- one line
 
 -- a line is refused, or it is answered and leaves a run
-pub data Turn : Type 0 where
-  Refuses : LineRefusal → Turn
-  Answers : Run → Answer → Turn
+pub data LineOutcome : Type 0 where
+  Refuses : LineRefusal → LineOutcome
+  Answers : Run → Answer → LineOutcome
 
 -- what a line that names an unknown replica or method is told is what a line of no built shape is told
 abbrev pub reason_of_issue : IssueRefusal → LineRefusal
@@ -52,20 +52,20 @@ abbrev pub answer_of_note : Note → Answer
 answer_of_note n = answers.Issued n.answer (places_of n.answer)
 
 -- an event, where the world takes it
-abbrev pub event_turn : Run → Event → Option StepRefusal → Turn
-event_turn r e (Some why) = Refuses (reason_of why)
-event_turn r e None = Answers (noted r (note_of r e)) (answer_of_note (note_of r e))
+abbrev pub event_outcome : Run → Event → Option StepRefusal → LineOutcome
+event_outcome r e (Some why) = Refuses (reason_of why)
+event_outcome r e None = Answers (noted r (note_of r e)) (answer_of_note (note_of r e))
 
-abbrev pub turn_at : Run → Option Line → Turn
-turn_at r None = Refuses NotYet
-turn_at r (Some Replicas) = Refuses NotYet
-turn_at r (Some (Show counter key)) = Answers r (answers.Value (value (state_of r.object r.notes) counter key))
-turn_at r (Some (Rows relation)) = Answers r (answers.Rows (rows (state_of r.object r.notes) relation))
-turn_at r (Some (Act e)) = event_turn r e (refusal_of r e)
+abbrev pub outcome_at : Run → Option Line → LineOutcome
+outcome_at r None = Refuses NotYet
+outcome_at r (Some Replicas) = Refuses NotYet
+outcome_at r (Some (Show counter key)) = Answers r (answers.Value (value (state_of r.object r.notes) counter key))
+outcome_at r (Some (Rows relation)) = Answers r (answers.Rows (rows (state_of r.object r.notes) relation))
+outcome_at r (Some (Act e)) = event_outcome r e (refusal_of r e)
 
 -- a line after the first
-unfoldable pub turn_of : Run → List ℕ → Turn
-turn_of r line = turn_at r (line_of r.object line)
+unfoldable pub outcome_of_line : Run → List ℕ → LineOutcome
+outcome_of_line r line = outcome_at r (line_of r.object line)
 
 -- ---- all lines
 
@@ -98,7 +98,7 @@ refused_at r refusal = record { text = refusal_text refusal; refused = Some refu
 -- the lines from the one with this number on
 unfoldable pub played_from : ℕ → Run → List (List ℕ) → Played
 played_from number r [] = record { text = answer_line answers.End; refused = None; run = r }
-played_from number r (l ∷ ls) = elim (turn_of r l) [
+played_from number r (l ∷ ls) = elim (outcome_of_line r l) [
   | Refuses why ↦ refused_at r (record { line = number; why = why })
   | Answers r' answer ↦ then_played (answer_line answer) (played_from (number + 1) r' ls)
 ]

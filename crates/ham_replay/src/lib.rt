@@ -4,8 +4,9 @@
 mod end;
 pub mod laws;
 mod line;
+mod outcome;
 mod play;
-mod turn;
+
 
 pub use end::{LineRefusal, ReplayEnd};
 pub use line::{Line, read_line};

@@ -10,7 +10,7 @@ ghost use Rattle.ham_replay.specs.Ends.{EndsAs, Writes, Puts, Gathers, StopsWith
 use crate::end::{LineRefusal, Refusal, ReplayEnd, Stop};
 use crate::laws::replays_are_faithful;
 use crate::line::{Line, read_line};
-use crate::turn::{LineEnd, turn};
+use crate::outcome::{LineEnd, play_line};
 use ham_bytes::{Gatherer, Sink};
 use ham_lines::{Answer, text};
 use ham_syntax::Object;
@@ -107,7 +107,7 @@ fn play_rest<K: Sink>(
     let mut number = 2u64;
     while !rest.is_empty() {
         let (line, after) = first_line(rest);
-        match turn(alloc, &mut world, line)? {
+        match play_line(alloc, &mut world, line)? {
             LineEnd::Answered(answer) => put_answer(alloc, gatherer, out, &answer)?,
             LineEnd::Refused(why) => {
                 let refusal = Refusal { line: number, why };

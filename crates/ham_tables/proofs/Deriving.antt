@@ -16,7 +16,7 @@ use Rattle.ham_plan.specs.Plans.{Plan, IsPlan, among, conflicts, depends_on}
 use Rattle.ham_laws.specs.Constrained.{constraints_of}
 use Rattle.ham_plan.specs.Grids.{cell}
 use Rattle.ham_laws.proofs.Missing.{IsActOf-within}
-use Rattle.ham_tables.specs.DerivedPlans.{stays, concur, conflict_of, depends_of, IsDerivedPlan}
+use Rattle.ham_tables.specs.DerivedPlans.{stays, concur, conflict_of, depends_of, Derived, IsDerived, IsDerivedPlan}
 
 both : (a b : Bool) → (a && b) ≡ true → (a ≡ true) × (b ≡ true)
 both true b e = (refl, e)
@@ -131,3 +131,14 @@ module _ (o : Schema) (checked : IsChecked o) where
       left m n apart true true x y = independent m n (sym (is.depends m n (ltb-true m _ x) (ltb-true n _ y)) ∙ apart)
       left m n apart true false x y = inr (λ a b s of_m of_n well inv pb pa. let h = IsActOf-within o n b of_n in let k = ltb-false n _ y in absurd (omega arith))
       left m n apart false t x y = inl (λ a s of_m well inv. let h = IsActOf-within o m a of_m in let k = ltb-false m _ x in absurd (omega arith))
+
+-- a plan that is made of an object's tables is derived from the object
+pub IsDerivedPlan-made : (o : Schema) (d : Derived) (p : Plan) → IsDerived o d → p.methods ≡ d.methods → p.conflict ≡ d.conflict → p.depends ≡ d.depends → IsPlan p → IsDerivedPlan o p
+IsDerivedPlan-made o d p is methods conflict depends plan =
+    let all : p.methods ≡ length o.methods = methods ∙ is.methods in
+    record {
+      plan = plan;
+      methods = all;
+      conflict = λ m n h k. among_is p.methods p.conflict m n (subst (λ (q : ℕ). m < q) (sym all) h) (subst (λ (q : ℕ). n < q) (sym all) k) ∙ (ap (λ (rows : List (List Bool)). cell rows m n) conflict ∙ is.conflict m n h k);
+      depends = λ m n h k. among_is p.methods p.depends m n (subst (λ (q : ℕ). m < q) (sym all) h) (subst (λ (q : ℕ). n < q) (sym all) k) ∙ (ap (λ (rows : List (List Bool)). cell rows m n) depends ∙ is.depends m n h k);
+    }

@@ -2,6 +2,7 @@
 
 ghost use Rattle.std.specs.Prelude.{◌≡◌, ◌≢◌, ℕ, ◌<◌, ◌≤◌, false, length};
 ghost use Rattle.ham_syntax.specs.Checked.{IsChecked};
+ghost use Rattle.ham_syntax.specs.Objects.{Schema};
 ghost use Rattle.ham_meaning.specs.OfObjects.{meaning};
 ghost use Rattle.ham_laws.specs.Executions.{IsSound};
 ghost use Rattle.ham_laws.specs.Constrained.{constraints_of};
@@ -11,6 +12,8 @@ ghost use Rattle.ham_tables.specs.DerivedPlans as derived_plans;
 use ham_plan::{Grid, Plan};
 use ham_rules::{Claim, derivable};
 use ham_syntax::Object;
+use ham_syntax::limits::{MAX_METHODS, MAX_REPLICAS};
+use std::marker::Model;
 
 fn stays(object: &Object, m: u8, n: u8) -> bool
     ensures { result ≡ derived_plans.stays object.now m n }
@@ -43,9 +46,9 @@ fn depends(object: &Object, m: u8, n: u8) -> bool
 }
 
 /// Fills row m with the conflicts of method m.
-fn fill_conflicts(grid: &mut Grid<32>, object: &Object, methods: u8, m: u8)
+fn fill_conflicts(grid: &mut Grid<MAX_METHODS>, object: &Object, methods: u8, m: u8)
     requires within { m < methods }
-    requires few { methods ≤ 32 }
+    requires few { methods ≤ MAX_METHODS }
     requires fresh { (q : ℕ) → cell grid.old.at m q ≡ false }
     ensures row { (q : ℕ) → q < methods → cell grid.new.at m q ≡ derived_plans.conflict_of object.now m q }
     ensures others { (p q : ℕ) → p ≢ m → cell grid.new.at p q ≡ cell grid.old.at p q }
@@ -58,9 +61,9 @@ fn fill_conflicts(grid: &mut Grid<32>, object: &Object, methods: u8, m: u8)
 }
 
 /// Fills row m with what method m depends on.
-fn fill_depends(grid: &mut Grid<32>, object: &Object, methods: u8, m: u8)
+fn fill_depends(grid: &mut Grid<MAX_METHODS>, object: &Object, methods: u8, m: u8)
     requires within { m < methods }
-    requires few { methods ≤ 32 }
+    requires few { methods ≤ MAX_METHODS }
     requires fresh { (q : ℕ) → cell grid.old.at m q ≡ false }
     ensures row { (q : ℕ) → q < methods → cell grid.new.at m q ≡ derived_plans.depends_of object.now m q }
     ensures others { (p q : ℕ) → p ≢ m → cell grid.new.at p q ≡ cell grid.old.at p q }
@@ -72,8 +75,8 @@ fn fill_depends(grid: &mut Grid<32>, object: &Object, methods: u8, m: u8)
     }
 }
 
-fn conflicts(object: &Object, methods: u8) -> Grid<32>
-    requires { methods ≤ 32 }
+fn conflicts(object: &Object, methods: u8) -> Grid<MAX_METHODS>
+    requires { methods ≤ MAX_METHODS }
     ensures { (m n : ℕ) → m < methods → n < methods → cell result.at m n ≡ derived_plans.conflict_of object.now m n }
 {
     let mut grid = Grid::new();
@@ -83,8 +86,8 @@ fn conflicts(object: &Object, methods: u8) -> Grid<32>
     grid
 }
 
-fn dependencies(object: &Object, methods: u8) -> Grid<32>
-    requires { methods ≤ 32 }
+fn dependencies(object: &Object, methods: u8) -> Grid<MAX_METHODS>
+    requires { methods ≤ MAX_METHODS }
     ensures { (m n : ℕ) → m < methods → n < methods → cell result.at m n ≡ derived_plans.depends_of object.now m n }
 {
     let mut grid = Grid::new();
@@ -94,29 +97,61 @@ fn dependencies(object: &Object, methods: u8) -> Grid<32>
     grid
 }
 
-fn derive(object: &Object, replicas: u8) -> Plan
-    requires some_replicas { 0 < replicas }
-    requires few_replicas { replicas ≤ 8 }
-    ensures replicas { result.replicas ≡ replicas }
-    ensures derived { derived_plans.IsDerivedPlan object.now result }
-    ensures checked { IsChecked object.now }
-{
-    let methods = object.methods().len() as u8;
-    Plan::make(
-        &conflicts(object, methods),
-        &dependencies(object, methods),
-        methods,
-        replicas,
-    )
+/// An object's conflicts and dependencies, derived once: its plans for any number of replicas are made from them.
+#[derive(Clone, Copy, Debug)]
+pub struct Derived {
+    methods: u8,
+    conflict: Grid<MAX_METHODS>,
+    depends: Grid<MAX_METHODS>,
 }
 
-/// The plan that the rules derive for this many replicas, 1 to 8. It is sound: what it leaves without order needs none.
+impl Model for Derived {
+    ghost use Rattle.ham_tables.specs.DerivedPlans.{Derived as Tables, AreTables};
+
+    ghost Value = { Tables };
+
+    ghost view = { λ d. record { methods = d.methods; conflict = d.conflict.at; depends = d.depends.at } };
+
+    ghost inverse = { λ v. record { methods = v.methods; conflict = record { at = v.conflict }; depends = record { at = v.depends } } };
+
+    ghost invariant = { λ d. AreTables (record { methods = d.methods; conflict = d.conflict.at; depends = d.depends.at }) };
+}
+
+impl Derived {
+    /// What the rules derive from the object.
+    pub fn of(object: &Object) -> Derived
+        ensures { derived_plans.IsDerived object.now result }
+    {
+        let methods = object.methods().len() as u8;
+        Derived {
+            methods,
+            conflict: conflicts(object, methods),
+            depends: dependencies(object, methods),
+        }
+    }
+
+    /// The plan for this many replicas, 1 to `MAX_REPLICAS`. It is sound for the object: what it leaves without order
+    /// needs none.
+    pub fn plan(&self, replicas: u8) -> Plan
+        requires some_replicas { 0 < replicas }
+        requires few_replicas { replicas ≤ MAX_REPLICAS }
+        ensures replicas { result.replicas ≡ replicas }
+        ensures derived { (o : Schema) → derived_plans.IsDerived o self.now → derived_plans.IsDerivedPlan o result }
+        ensures sound { (o : Schema) → IsChecked o → derived_plans.IsDerived o self.now → IsSound (meaning o) (constraints_of result) }
+    {
+        Plan::make(&self.conflict, &self.depends, self.methods, replicas)
+    }
+}
+
+/// The plan that the rules derive for this many replicas, 1 to `MAX_REPLICAS`. It is sound: what it leaves without order
+/// needs none.
 pub fn plan_of(object: &Object, replicas: u8) -> Plan
     requires some_replicas { 0 < replicas }
-    requires few_replicas { replicas ≤ 8 }
+    requires few_replicas { replicas ≤ MAX_REPLICAS }
     ensures replicas { result.replicas ≡ replicas }
     ensures derived { derived_plans.IsDerivedPlan object.now result }
     ensures sound { IsSound (meaning object.now) (constraints_of result) }
 {
-    derive(object, replicas)
+    let _methods = object.methods();
+    Derived::of(object).plan(replicas)
 }

@@ -6,5 +6,5 @@ pub mod laws;
 mod lines;
 pub mod tables;
 
-pub use derived::plan_of;
+pub use derived::{Derived, plan_of};
 pub use tables::print_tables;

@@ -47,7 +47,7 @@ pub goes_on : (o : Schema) (s new : State) (kept : List Note) (decided : ℕ) (a
 goes_on o s new kept decided act w fits has_room permitted is small =
     let earlier : List Note = reverse kept in
     let n : Note = record { replica = 1; act = act; answer = Applied (record { lane = 0; number = decided + 1 }) } in
-    let call : Call = record { lane = 0; number = decided + 1; act = act } in
+    let call : Call = record { lane = 0; number = decided + 1; act = act; deps = [] } in
     let permitted_there : outcome_of o (state_of o earlier) act ≡ outcomes.Yes = subst (λ (t : State). outcome_of o t act ≡ outcomes.Yes) w.state permitted in
     let next : IsNext o earlier n = record {
       replica = refl;

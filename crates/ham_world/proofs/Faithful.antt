@@ -26,7 +26,7 @@ use Rattle.ham_world.proofs.Deciding.{state_more, state_same, taken_is}
 -- the state after one event more satisfies the invariant, by the outcome that was answered
 keeps_by : (o : Schema) (earlier : List Note) (n : Note) (place : Place) (u : Outcome) → AllHold o (state_of o earlier) → n.answer ≡ answer_by place u → IsOutcome o (state_of o earlier) n.act u → AllHold o (state_of o (n ∷ earlier))
 keeps_by o earlier n place Yes holds answer outcome =
-    let call : Call = record { lane = place.lane; number = place.number; act = n.act } in
+    let call : Call = record { lane = place.lane; number = place.number; act = n.act; deps = [] } in
     subst (AllHold o) (sym (state_more o earlier n call (ap (made_by n.act) answer))) outcome.invariants
 keeps_by o earlier n place (Guard g) holds answer outcome = subst (AllHold o) (sym (state_same o earlier n (ap (made_by n.act) answer))) holds
 keeps_by o earlier n place (Invariant v) holds answer outcome = subst (AllHold o) (sym (state_same o earlier n (ap (made_by n.act) answer))) holds

@@ -1,8 +1,9 @@
 -- The table of turns: what a replica answers to what it takes in. It speaks of the words of `Words` alone.
-use Rattle.std.specs.Prelude.{ℕ, ◌+◌, List, Option, Some, None}
+use Rattle.std.specs.Prelude.{ℕ, ◌+◌, List, [], Option, Some, None}
 use Rattle.ham_syntax.specs.declared.act.Act.{Act}
 use Rattle.ham_syntax.specs.declared.act.Call.{Call}
 use Rattle.ham_syntax.specs.declared.act.Place.{Place}
+use Rattle.ham_syntax.specs.declared.limits.TheConstants.{MAX_LANE_CALLS}
 use Rattle.ham_syntax.specs.Objects.{Schema}
 use Rattle.ham_state.specs.Content.{State}
 use Rattle.ham_meaning.specs.declared.outcome.Outcome.{Outcome}
@@ -13,7 +14,7 @@ use Rattle.ham_meaning.specs.Meaning.{outcome_of}
 
 -- how many calls a lane takes
 abbrev pub room : ℕ
-room = 65536
+room = MAX_LANE_CALLS
 
 -- the words of the table, at a replica before a turn: its state, the calls that it logged, and how many were decided in
 -- the lane of all methods
@@ -37,5 +38,5 @@ answer_of o w act = answer_by (next_place w) (outcome_of o w.state act)
 
 -- the call that a turn decides: by the act that it took in, and its answer
 abbrev pub made_by : Act → Issued → Option Call
-made_by act (Applied place) = Some (record { lane = place.lane; number = place.number; act = act })
+made_by act (Applied place) = Some (record { lane = place.lane; number = place.number; act = act; deps = [] })
 made_by act (Impermissible u) = None

@@ -6,4 +6,4 @@ pub mod laws;
 pub mod world;
 
 pub use event::{Event, IssueRefusal, Note, StepRefusal};
-pub use world::{MAX_CALLS, World};
+pub use world::World;

@@ -7,6 +7,7 @@ ghost use Rattle.ham_world.specs.Runs as runs;
 use crate::event::{Event, IssueRefusal, Note, StepRefusal};
 use ham_meaning::{Issued, Outcome, apply, permissible};
 use ham_state::{Fact, Row, State};
+use ham_syntax::limits::MAX_LANE_CALLS;
 use ham_syntax::{Act, Items, NoMemory, Object, Place};
 use std::alloc::Global;
 use std::marker::Model;
@@ -31,9 +32,6 @@ impl<'a> Model for World<'a> {
 
     ghost invariant = { λ w. IsWorld w.object.now w.state w.notes.items w.decided };
 }
-
-/// How many calls a lane takes.
-pub const MAX_CALLS: u32 = 65_536;
 
 /// The lane on which every call is decided while there is one replica.
 const LANE: u8 = 0;
@@ -83,7 +81,7 @@ impl<'a> World<'a> {
             Some(IssueRefusal::UnknownMethod)
         } else if !self.object.args_fit(act) {
             Some(IssueRefusal::BadArgs)
-        } else if self.decided >= MAX_CALLS {
+        } else if self.decided as usize >= MAX_LANE_CALLS {
             Some(IssueRefusal::LaneFull)
         } else {
             None

@@ -1,5 +1,5 @@
 use Rattle.std.proofs.Common.{◌∙◌}
-use Rattle.ham_check.proofs.Soundness.{AreParts, AreParts-of, IsChecked-parts}
+use Rattle.ham_check.proofs.Soundness.{AreParts-of, IsChecked-parts}
 use Rattle.ham_check.proofs.check.check_object.Goals as goal
 
 pub of_parts-requires : goal.of_parts-requires

@@ -1,6 +1,5 @@
-use Rattle.std.proofs.Common.{◌≡◌, ◌∙◌, ◌++◌, ◌∷◌, [], ◌||◌, ℕ, List, Bool, get_or, take, drop, ◌+◌, false, sym, ap, refl}
+use Rattle.std.proofs.Common.{◌∙◌, ◌++◌, ◌∷◌, [], ◌||◌, ℕ, List, Bool, get_or, take, drop, ◌+◌, sym, ap, refl}
 use Rattle.std.proofs.lemmas.List.{take_more}
-use Rattle.ham_syntax.specs.Checked.{AreColumns}
 use Rattle.ham_check.specs.Faults.{has_bad_column}
 use Rattle.ham_check.proofs.Columns.{AreColumns-none, AreColumns-push, AreColumns-room, has_bad_column-step}
 use Rattle.ham_check.proofs.form.resolve_columns.Goals as goal

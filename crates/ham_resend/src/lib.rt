@@ -1,0 +1,10 @@
+//! Requests made with their verdicts, rulings given, and what is due to be sent again.
+#![tactic(auto)]
+
+pub mod asks;
+pub mod due;
+pub mod rulings;
+
+pub use asks::{Ask, AskFault, Asked, Asks, Refused, Told, VerdictFault};
+pub use due::due_calls;
+pub use rulings::Rulings;

@@ -1,0 +1,5 @@
+//! Tests of states.
+#![tactic(auto)]
+
+#[cfg(test)]
+mod states;

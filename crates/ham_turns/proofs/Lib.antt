@@ -1,0 +1,3 @@
+pub mod PlanFacts
+mod Ranging
+mod Tabling
