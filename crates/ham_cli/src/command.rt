@@ -6,8 +6,8 @@ ghost use Rattle.std.specs.Str.{is_utf8};
 ghost use Rattle.ham_cli.specs.Commands as commands;
 
 use crate::named::NamedClaim;
-use ham_syntax::limits::MAX_REPLICAS;
 use ham_syntax::Word;
+use ham_syntax::limits::MAX_REPLICAS;
 use ham_text::number;
 
 /// A command: its files, by their names.

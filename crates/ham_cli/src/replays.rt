@@ -9,8 +9,8 @@ use crate::exit::{Exit, exit_of_fetch};
 use crate::objects::{fetch_object, tell_missing};
 use ham_bytes::{Shelf, Sink};
 use ham_replay::{ReplayEnd, replay};
-use ham_syntax::limits::MAX_SCHEDULE_BYTES;
 use ham_syntax::Object;
+use ham_syntax::limits::MAX_SCHEDULE_BYTES;
 use std::alloc::Global;
 
 /// Fetches and reads the object, then fetches the schedule and writes the text of the run that it makes.
