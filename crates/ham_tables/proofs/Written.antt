@@ -1,10 +1,10 @@
 -- Texts that are written piece by piece, one for each number below another.
-use Rattle.std.proofs.Common.{◌≡◌, ℕ, ◌+◌, Bool, true, false, if◌then◌else◌, List, [], ◌∷◌, ◌++◌, map, refl, sym, ap, ◌∙◌, append_assoc, arith}
+use Rattle.std.proofs.Common.{◌≡◌, ℕ, ◌+◌, Bool, true, false, if◌then◌else◌, List, [], ◌∷◌, ◌++◌, map, sym, ap, ◌∙◌, append_assoc, arith}
 use Rattle.std.specs.List.{flat_map, range_with_len}
 use Rattle.std.proofs.lemmas.List.{append-nil}
 use Rattle.std.proofs.lemmas.List.Concat.{flat_map-append}
 use Rattle.std.proofs.lemmas.List.FromFn.{map-range_with_len_more}
-use Rattle.ham_rules.specs.Claims.{each_below, lists_below}
+use Rattle.ham_rules.specs.Claims.{lists_below}
 use Rattle.ham_text.specs.Written.{joined, line_text}
 use Rattle.ham_text.proofs.Wording.{joined_more}
 use Rattle.std.specs.Prelude.{codes}

@@ -1,4 +1,3 @@
-use Rattle.std.proofs.Common.{◌∙◌}
 use Rattle.ham_tables.proofs.Written.{tables_are}
 use Rattle.ham_tables.proofs.tables.print_tables.Goals as goal
 
