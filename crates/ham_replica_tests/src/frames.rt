@@ -28,8 +28,9 @@ const DIGEST: [u8; 32] = [
 ];
 
 /// Bytes of which one is refused, its place, and the reason.
-const REFUSED: [(&[u8], u64, Why); 17] = [
+const REFUSED: [(&[u8], u64, Why); 18] = [
     (b"\x00", 0, Why::BadKind),
+    (b"\x07", 0, Why::BadKind),
     (b"\x06\x06\x07\x06", 2, Why::BadKind),
     (b"\x01\x02", 1, Why::BadVersion),
     (b"\x04\x20", 1, Why::BadGroup),
@@ -57,9 +58,10 @@ const REFUSED: [(&[u8], u64, Why); 17] = [
 ];
 
 /// Bytes that are read, how many frames they are, and what the end of the stream is.
-const READ: [(&[u8], usize, Result<(), Torn>); 7] = [
+const READ: [(&[u8], usize, Result<(), Torn>); 8] = [
     (b"", 0, Ok(())),
     (b"\x06", 1, Ok(())),
+    (b"\x03\x06", 0, Err(Torn { from: 0 })),
     (b"\x06\x03", 1, Err(Torn { from: 1 })),
     (b"\x03\x00\x00\x01\x00\x00", 1, Ok(())),
     (b"\x03\x00\x00\x00\x00\x00\x06", 2, Ok(())),
