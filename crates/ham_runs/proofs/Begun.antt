@@ -9,9 +9,8 @@ use Rattle.ham_frame.specs.declared.frame.Frame.TheVariants as frames
 use Rattle.ham_frame.specs.declared.frame.Frame.TheVariants.{Hello, Ack, Request, Verdict, Bye}
 use Rattle.ham_plan.specs.Lists.{In, Within}
 use Rattle.ham_laws.specs.Executions.{IsSound}
-use Rattle.ham_runs.specs.Law.{Laws}
+use Rattle.ham_runs.specs.Facts.{constraints, IsSetting, Laws}
 use Rattle.ham_turns.specs.Settings.{Rules, Setting, meaning_by, IsReplica}
-use Rattle.ham_runs.specs.Facts.{constraints, IsSetting}
 use Rattle.ham_turns.specs.Words.{Intake, ActComes, FrameComes, PartComes, Beat, place_of}
 use Rattle.ham_turns.specs.Work.{made_of, call_in, place_made}
 use Rattle.ham_runs.specs.Runs.{Note, Decision, log_of, decision_of, decisions, on_link, arrived, pushed, words_of, MayTake, places}

@@ -11,9 +11,8 @@ use Rattle.ham_laws.specs.Executions.{IsSound, Execution, Needs, IsClosed, state
 use Rattle.ham_laws.specs.Drain.{Drains, IsWaiting}
 use Rattle.ham_laws.specs.Drain.Drains.{Settled, Next}
 use Rattle.ham_laws.specs.Counts.{IsReadyByCounts}
-use Rattle.ham_runs.specs.Law.{Laws}
+use Rattle.ham_runs.specs.Facts.{constraints, IsSetting, Laws}
 use Rattle.ham_turns.specs.Settings.{Rules, Setting, meaning_by}
-use Rattle.ham_runs.specs.Facts.{constraints, IsSetting}
 use Rattle.ham_turns.specs.Words.{ReplicaWords, place_of, in_lane}
 use Rattle.ham_turns.specs.Work.{at_place, logged_one}
 use Rattle.ham_turns.specs.Ready.{IsWithin, IsReadyHere, LogsReady, IsSettled}

@@ -15,11 +15,13 @@ use Rattle.ham_frame.specs.declared.frame.Frame.TheVariants as frames
 use Rattle.ham_frame.specs.declared.frame.Frame.TheVariants.{Hello, Ack, Request, Verdict, Bye}
 use Rattle.ham_turns.specs.Settings.{Rules, Setting}
 use Rattle.ham_runs.specs.Facts.{IsSetting}
-use Rattle.ham_turns.specs.Words.{Intake, ActComes, FrameComes, PartComes, Beat, place_of}
+use Rattle.ham_turns.specs.Words.{Intake, ActComes, FrameComes, PartComes, Beat, place_of, numbered}
 use Rattle.ham_turns.specs.Work.{lane_here, new_call, ruling_by, ruling_of, issued_by, answer_of, ruled_of}
-use Rattle.ham_runs.specs.Runs.{Note, words_of, rulings_of, IsNext}
+use Rattle.ham_runs.specs.Runs.{Note, on_link, requests_of, rulings_of, words_of, MayTake, IsNext}
 use Rattle.ham_runs.specs.Headline.{IsNextRequest, DecidesExactly}
+use Rattle.ham_runs.proofs.Decisions.{numbered_in}
 use Rattle.ham_runs.proofs.Listed.{none_some}
+use Rattle.ham_runs.proofs.Links.{RunKept}
 
 -- an issue here is impermissible for what its outcome says, where that isn't Yes
 issue_exact : (p : Place) (v u : Outcome) → whats.Issued (issued_by p v) ≡ whats.Issued (issued.Impermissible u) ↔ ((v ≡ u) × (u ≢ Yes))
@@ -68,7 +70,7 @@ next_ruled : (next : Bool) (v u : Ruling) → cond next (Some v) None ≡ Some u
 next_ruled true v u h = refl
 next_ruled false v u h = absurd (none_some u h)
 
-module _ (x : Rules) (y : Setting) (setting : IsSetting x y) (earlier : List Note) (n : Note) (next : IsNext x y earlier n) where
+module _ (x : Rules) (y : Setting) (setting : IsSetting x y) (earlier : List Note) (n : Note) (kept : RunKept x y earlier) (next : IsNext x y earlier n) where
   answered : (took : Intake) → n.took ≡ took → n.answer ≡ answer_of x y (words_of x y earlier n.at) n.at took
   answered took te = next.answer ∙ ap (λ t. answer_of x y (words_of x y earlier n.at) n.at t) te
 
@@ -117,6 +119,12 @@ module _ (x : Rules) (y : Setting) (setting : IsSetting x y) (earlier : List Not
   only_next v h (PartComes from k f) te = absurd (none_some v (sym (ruled _ te) ∙ h))
   only_next v h Beat te = absurd (none_some v (sym (ruled _ te) ∙ h))
 
+  asked : (q : IsNextRequest earlier n) → (numbered (requests_of earlier q.from q.group) q.number ≡ Some q.act) × (lane_here y q.from q.act ≡ q.group) × (y.decider q.group ≡ n.at)
+  asked q =
+      let f = Request q.group q.number q.act in
+      let so = kept.links q.from n.at f (numbered_in (on_link earlier q.from n.at) q.which f (subst (λ t. MayTake x y earlier n.at t) q.took next.may)) in
+      (so.1, (kept.asked q.from q.group q.number q.act so.1).lane, so.0)
+
   pub decides_exactly : DecidesExactly x y earlier n
   decides_exactly =
       let w = words_of x y earlier n.at in
@@ -141,5 +149,7 @@ module _ (x : Rules) (y : Setting) (setting : IsSetting x y) (earlier : List Not
         full = λ q room.
             ruled_next q
             ∙ ap (λ b. Some (cond b (ruling_by (length (w.decided q.group) + 1) (x.outcome w.state q.act)) rulings.Full)) (le-ltb (length (w.decided q.group)) x.lane_limit room);
+        always = λ q. (ruling_of x w q.group q.act, ruled_next q);
+        asked = asked;
         only_next = λ v h. only_next v h n.took refl;
       }

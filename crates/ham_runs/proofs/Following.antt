@@ -8,16 +8,15 @@ use Rattle.ham_syntax.specs.declared.act.Call.{Call}
 use Rattle.ham_frame.specs.declared.frame.Frame.{Frame}
 use Rattle.ham_plan.specs.Lists.{In}
 use Rattle.ham_laws.specs.Executions.{IsSound}
-use Rattle.ham_runs.specs.Law.{Laws}
+use Rattle.ham_runs.specs.Facts.{constraints, IsSetting, Laws, IsGiven}
 use Rattle.ham_turns.specs.Settings.{Rules, Setting, meaning_by, IsReplica}
-use Rattle.ham_runs.specs.Facts.{constraints, IsSetting}
 use Rattle.ham_turns.specs.Words.{ReplicaWords, Intake, ActComes, FrameComes, PartComes, Beat, place_of, numbered}
 use Rattle.ham_turns.specs.Work.{at_place, call_in, made_of, logged_made, own_work}
 use Rattle.ham_turns.specs.Refusals.{issue_refusal}
 use Rattle.ham_runs.specs.Runs.{Note, Decision, decisions, arrived, on_link, words_of, MayTake, IsRun}
-use Rattle.ham_runs.specs.Next.{note_by, Input, at_of, found, intake_of, is_replica, may_take, taken_as, next_note, after_input, run_of}
+use Rattle.ham_runs.specs.Next.{note_by, Input, at_of, found, intake_of, is_replica, may_take, taken_as, next_note, after_input, run_of, input_of, inputs}
 use Rattle.ham_runs.specs.Next.Input.{Issue, Deliver, Tear, Tick}
-use Rattle.ham_runs.specs.Claims.{IsGiven, NotesFollow, input_of, inputs, InputsGiveRuns}
+use Rattle.ham_runs.specs.Claims.{NotesFollow, InputsGiveRuns}
 use Rattle.ham_plan.proofs.Lists.{true_or_false}
 use Rattle.ham_runs.proofs.Listed.{at_place_push}
 use Rattle.ham_runs.proofs.Begun.{IsBegun, came_later, mid_kept}

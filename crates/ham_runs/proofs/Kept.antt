@@ -10,12 +10,11 @@ use Rattle.ham_laws.specs.Turns.{IsDecision, IsDrain}
 use Rattle.ham_laws.specs.Drain.{Drains, LanesOrdered}
 use Rattle.ham_laws.specs.Counts.{ConflictsShareLanes, IsNumbered}
 use Rattle.ham_laws.specs.Lanes.{IsNextInLane}
-use Rattle.ham_runs.specs.Law.{Laws}
+use Rattle.ham_runs.specs.Facts.{constraints, IsSetting, Laws}
 use Rattle.ham_plan.proofs.Lists.{in_front, in_back, in_last}
 use Rattle.ham_laws.proofs.Bridge.{calls_after}
 use Rattle.ham_laws.proofs.Lanes.{count_by-same}
 use Rattle.ham_turns.specs.Settings.{Rules, Setting, meaning_by, IsReplica}
-use Rattle.ham_runs.specs.Facts.{constraints, IsSetting}
 use Rattle.ham_turns.specs.Words.{in_lane, place_of}
 use Rattle.ham_runs.specs.Runs.{Decision, no_act, of_place, call_of_lane, execution_of, pushed, in_slot}
 use Rattle.ham_runs.proofs.Decisions.{places_of, places_push, place_in, say_old, say_new, found, lane_push, lane_length}

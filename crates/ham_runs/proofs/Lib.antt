@@ -12,6 +12,7 @@ pub mod Once
 pub mod OnePlan
 pub mod OneRun
 pub mod PlanSettings
+pub mod Room
 pub mod Refined
 pub mod Safe
 pub mod Settled
@@ -19,6 +20,6 @@ pub mod Single
 pub mod Slots
 pub mod Steps
 pub mod Objects
-pub mod Story
+pub mod Telling
 pub mod Slips
 pub mod Outcomes

@@ -57,7 +57,7 @@ pub record RunKept (x : Rules) (y : Setting) (notes : List Note) : Type 0 where
 -- ---- an issue that is not refused
 
 -- the refusals tested one after another
-passes : {R : Type 0} (b : Bool) (why : R) (rest : Option R) → cond b (Some why) rest ≡ None → (b ≡ false) × (rest ≡ None)
+pub passes : {R : Type 0} (b : Bool) (why : R) (rest : Option R) → cond b (Some why) rest ≡ None → (b ≡ false) × (rest ≡ None)
 passes true why rest h = absurd (none_some why (sym h))
 passes false why rest h = (refl, h)
 

@@ -8,12 +8,10 @@ use Rattle.ham_meaning.specs.Meaning.{IsOutcome, outcome_of}
 use Rattle.ham_meaning.specs.OfObjects.{meaning}
 use Rattle.ham_plan.specs.Plans.{Plan}
 use Rattle.ham_laws.proofs.Missing.{act-within}
-use Rattle.ham_runs.specs.Law.{Laws}
+use Rattle.ham_runs.specs.Facts.{IsPlanned, Laws, IsGiven}
 use Rattle.ham_turns.specs.Settings.{setting_of}
-use Rattle.ham_runs.specs.Objects.{IsPlanned}
 use Rattle.ham_turns.specs.Settings.{rules_of}
-use Rattle.ham_runs.specs.Claims.{IsGiven, KeepsRules}
-use Rattle.ham_runs.proofs.PlanSettings.{plans_are_settings}
+use Rattle.ham_runs.proofs.PlanSettings.{KeepsRules, plan_setting}
 
 module _ (o : Schema) (exact : (s : State) (act : Act) → IsOutcome o s act (outcome_of o s act)) (one : (s : State) (act : Act) (u v : Outcome) → IsOutcome o s act u → IsOutcome o s act v → u ≡ v) where
   keeps_rules : (p : Plan) → IsPlanned o p → KeepsRules (rules_of o) p.methods
@@ -26,7 +24,7 @@ module _ (o : Schema) (exact : (s : State) (act : Act) → IsOutcome o s act (ou
   pub given : (p : Plan) → IsPlanned o p → Laws (meaning o) → IsGiven (rules_of o) (setting_of p)
   unfolding setting_of
   given p planned laws = record {
-    setting = (plans_are_settings (rules_of o) p planned.plan (keeps_rules p planned)).0;
+    setting = plan_setting (rules_of o) p planned.plan (keeps_rules p planned);
     sound = planned.sound;
     laws = laws;
   }

@@ -84,6 +84,7 @@ in_number_order x y (n ∷ earlier) run r from g = elim (true_or_false (eqb n.at
 pub decided_once : (x : Rules) (y : Setting) (notes : List Note) → IsRun x y notes → RunKept x y notes → IsDecidedOnce notes
 decided_once x y notes run kept = record {
   in_order = λ r from g. in_number_order x y notes run r from g;
+  as_kept = λ from to g n v kv. let sv = kept.links from to (Verdict g n v) kv in (sv.1, sv.2, sv.3);
   one_verdict = λ from to g n v u kv ku.
       let sv = kept.links from to (Verdict g n v) kv in
       let su = kept.links from to (Verdict g n u) ku in

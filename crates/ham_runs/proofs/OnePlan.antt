@@ -4,7 +4,7 @@ use Rattle.std.specs.Prelude.{nat_lt}
 use Rattle.std.specs.List.{range_with_len}
 use Rattle.ham_plan.specs.Groups.{IsChain, IsFree, IsLeastOf}
 use Rattle.ham_turns.specs.Settings.{setting_of}
-use Rattle.ham_runs.specs.Claims.{SaysSame}
+use Rattle.ham_runs.specs.Facts.{SaysSame}
 use Rattle.ham_plan.specs.Plans.{Plan, IsPlan, conflicts, least_of, is_none, is_own, is_free, is_first, groups, lane_of, width, first_slot, needs_below, count_below, sum_below}
 
 not_free : (conflict : ℕ → ℕ → Bool) (m n : ℕ) (between : List ℕ) → IsFree conflict m → IsChain conflict m between n → ⊥

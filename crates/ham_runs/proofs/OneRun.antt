@@ -5,14 +5,14 @@ use Rattle.ham_syntax.specs.declared.act.Place.{Place}
 use Rattle.ham_syntax.specs.declared.act.Call.{Call}
 use Rattle.ham_laws.specs.Executions.{IsSound}
 use Rattle.ham_laws.specs.Drain.{Drains}
-use Rattle.ham_runs.specs.Law.{Laws}
+use Rattle.ham_runs.specs.Facts.{constraints, IsSetting, Laws, IsGiven}
 use Rattle.ham_turns.specs.Settings.{Rules, Setting, meaning_by}
-use Rattle.ham_runs.specs.Facts.{constraints, IsSetting}
 use Rattle.ham_turns.specs.Words.{Intake, ActComes, FrameComes, PartComes, Beat, numbered}
 use Rattle.ham_turns.specs.Work.{place_made, call_in, answer_of, ruled_of, made_of}
 use Rattle.ham_turns.specs.Sends.{sent_by}
 use Rattle.ham_runs.specs.Runs.{Note, log_of, decision_of, decisions, execution_of, decided_execution, pushed, on_link, arrived, places, words_of, MayTake, IsNext, IsRun}
-use Rattle.ham_runs.specs.Claims.{IsGiven, input_of, inputs, OneRun}
+use Rattle.ham_runs.specs.Next.{input_of, inputs}
+use Rattle.ham_runs.specs.Claims.{OneRun}
 use Rattle.ham_runs.proofs.Listed.{some_inj}
 use Rattle.ham_runs.proofs.Begun.{IsBegun, delivered_known, mid_kept}
 use Rattle.ham_runs.proofs.Steps.{run_kept}

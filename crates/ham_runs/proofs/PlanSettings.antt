@@ -1,17 +1,32 @@
--- A plan gives a setting.
-use Rattle.std.proofs.Common.{◌≡◌, ℕ, ◌%◌, ◌≤◌, ◌<◌, true, Option, Some, None, refl, sym, ap, subst, ◌∙◌, true≢false, arith}
+-- A plan gives a setting, and one replica decides everything where the plan is single.
+use Rattle.std.proofs.Common.{◌≡◌, ◌↔◌, ℕ, ◌%◌, ◌≤◌, ◌<◌, true, Option, Some, None, refl, sym, ap, subst, ◌∙◌, true≢false, arith}
+use Rattle.std.specs.Prelude.{IsTrue}
 use Rattle.std.proofs.lemmas.Bool.{lt-ltb}
+use Rattle.ham_syntax.specs.declared.act.Act.{Act}
+use Rattle.ham_state.specs.Content.{State}
+use Rattle.ham_meaning.specs.declared.outcome.Outcome.{Outcome}
+use Rattle.ham_meaning.specs.declared.outcome.Outcome.TheVariants.{Yes}
 use Rattle.ham_plan.specs.Groups.{IsLeastOf}
 use Rattle.ham_plan.specs.Plans.{Plan, IsPlan, conflicts, least_of, is_first, groups, lane_of, decider_of, count_below}
-use Rattle.ham_turns.specs.Settings.{Rules, setting_of}
+use Rattle.ham_turns.specs.Settings.{Rules, Setting, IsReplica, setting_of}
 use Rattle.ham_runs.specs.Facts.{IsSetting}
-use Rattle.ham_runs.specs.Claims.{KeepsRules, IsSingle, PlansAreSettings}
 use Rattle.ham_plan.proofs.Joining.{Joined-direct}
 use Rattle.ham_plan.proofs.Labelling.{among-within}
 use Rattle.ham_plan.proofs.PlanLanes.{group-within}
 use Rattle.ham_turns.proofs.PlanFacts.{share, one_lane, group_exists, lane_exists, slot_method, slot_lane, lane_slot, needed, needed_only}
 
-plan_setting : (x : Rules) (p : Plan) → IsPlan p → KeepsRules x p.methods → IsSetting x (setting_of p)
+-- what rules owe, whatever the plan is
+pub record KeepsRules (x : Rules) (methods : ℕ) : Type 0 where
+  pub fits_exist : (a : Act) → IsTrue (x.fits a) → a.method < methods
+  pub permissible : (s : State) (a : Act) → x.outcome s a ≡ Yes → x.Permissible s a
+  pub outcome : (s : State) (a : Act) (u : Outcome) → (x.outcome s a ≡ u) ↔ x.IsOutcome s a u
+
+-- all methods conflict, and replica 1 decides them
+pub record DecidesAll (y : Setting) : Type 0 where
+  pub conflict : (m n : ℕ) → m < y.methods → n < y.methods → y.conflict m n ≡ true
+  pub first : (m r : ℕ) → m < y.methods → IsReplica y r → y.decider (y.lane m r) ≡ 1
+
+pub plan_setting : (x : Rules) (p : Plan) → IsPlan p → KeepsRules x p.methods → IsSetting x (setting_of p)
 unfolding setting_of
 plan_setting x p is keeps = record {
   fits_exist = keeps.fits_exist;
@@ -46,12 +61,6 @@ single_lane p is all m r there = by (least_of p m) refl
         let first : 0 % p.replicas ≡ 0 = omega arith in
         rw (e, none_below, lt-ltb 0 (groups p) some, first) refl
 
-pub plan_single : (p : Plan) → IsPlan p → ((m n : ℕ) → m < p.methods → n < p.methods → conflicts p m n ≡ true) → IsSingle (setting_of p)
+pub plan_single : (p : Plan) → IsPlan p → ((m n : ℕ) → m < p.methods → n < p.methods → conflicts p m n ≡ true) → DecidesAll (setting_of p)
 unfolding setting_of
 plan_single p is all = record { conflict = all; first = λ m r there hr. single_lane p is all m r there }
-
-pub plans_are_settings : (x : Rules) → PlansAreSettings x
-plans_are_settings x p is keeps = (
-  plan_setting x p is keeps,
-  plan_single p is,
-)

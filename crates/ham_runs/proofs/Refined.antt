@@ -10,16 +10,15 @@ use Rattle.ham_syntax.specs.declared.act.Call.{Call}
 use Rattle.ham_plan.specs.Lists.{In, Within}
 use Rattle.ham_laws.specs.Executions.{IsSound, IsClosed, state_after}
 use Rattle.ham_laws.specs.Drain.{Drains, IsWaiting}
-use Rattle.ham_runs.specs.Law.{Laws}
+use Rattle.ham_runs.specs.Facts.{constraints, IsSetting, Laws, IsGiven}
 use Rattle.ham_turns.specs.Settings.{Rules, Setting, meaning_by, IsReplica}
-use Rattle.ham_runs.specs.Facts.{constraints, IsSetting}
 use Rattle.ham_turns.specs.Words.{ReplicaWords, Intake, place_of}
 use Rattle.ham_turns.specs.Work.{call_in, place_made, decided_after, logged_one, logged_made, taken, own_work}
 use Rattle.ham_turns.specs.Ready.{IsReadyHere, LogsReady, DrainsHere}
 use Rattle.ham_turns.specs.Ready.LogsReady.{Stop, Log}
 use Rattle.ham_runs.specs.Runs.{Note, Decision, no_act, of_place, decision_of, decided_here, call_of_lane, execution, decided_execution, in_slot, log_of, decisions, arrived, pushed, places, words_of, MayTake, IsRun}
 use Rattle.ham_runs.specs.Next.{note_by}
-use Rattle.ham_runs.specs.Claims.{IsGiven, TurnsRefine}
+use Rattle.ham_runs.specs.Claims.{TurnsRefine}
 use Rattle.ham_plan.proofs.Lists.{true_or_false}
 use Rattle.ham_laws.proofs.Bridge.{calls_after}
 use Rattle.ham_laws.proofs.Lanes.{count_by-same}

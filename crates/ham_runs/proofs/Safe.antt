@@ -8,13 +8,12 @@ use Rattle.ham_syntax.specs.declared.act.Call.{Call}
 use Rattle.ham_plan.specs.Lists.{In}
 use Rattle.ham_laws.specs.Executions.{IsSound, Needs, IsClosed}
 use Rattle.ham_laws.specs.Drain.InReach.{Delivered}
-use Rattle.ham_runs.specs.Law.{Laws}
+use Rattle.ham_runs.specs.Facts.{constraints, IsSetting, Laws, IsGiven}
 use Rattle.ham_turns.specs.Settings.{Rules, Setting, meaning_by}
-use Rattle.ham_runs.specs.Facts.{constraints, IsSetting}
 use Rattle.ham_turns.specs.Words.{place_of}
 use Rattle.ham_runs.specs.Runs.{Note, log_of, decisions, execution, decided_execution, arrived, places, IsNext, IsRun}
 use Rattle.ham_runs.specs.Headline.{AtEachMoment, OfEachTurn, IsSafe, LogsItsReach, DecidesExactly, IsAccepted, IsFaithful}
-use Rattle.ham_runs.specs.Claims.{IsGiven, RunsAreFaithful}
+use Rattle.ham_runs.specs.Claims.{RunsAreFaithful, FramesAreTaken}
 use Rattle.ham_plan.proofs.Lists.{true_or_false}
 use Rattle.ham_laws.proofs.Bridge.{calls_after}
 use Rattle.ham_laws.proofs.Counts.{distinct, needed_in}
@@ -110,7 +109,7 @@ module _ (x : Rules) (y : Setting) (setting : IsSetting x y) (sound : IsSound (m
 
   each_exact : (notes : List Note) → IsRun x y notes → OfEachTurn (DecidesExactly x y) notes
   each_exact [] run = tt
-  each_exact (n ∷ earlier) run = (decides_exactly x y setting earlier n run.0, each_exact earlier run.1)
+  each_exact (n ∷ earlier) run = (decides_exactly x y setting earlier n (run_kept x y setting sound laws earlier run.1) run.0, each_exact earlier run.1)
 
   each_reach : (notes : List Note) → IsRun x y notes → OfEachTurn (LogsItsReach x y) notes
   each_reach [] run = tt
@@ -138,3 +137,7 @@ module _ (x : Rules) (y : Setting) (setting : IsSetting x y) (sound : IsSound (m
 
 pub runs_are_faithful : (x : Rules) (y : Setting) → IsGiven x y → RunsAreFaithful x y
 runs_are_faithful x y given = faithful x y given.setting given.sound given.laws
+
+pub frames_are_taken : (x : Rules) (y : Setting) → IsGiven x y → FramesAreTaken x y
+frames_are_taken x y given notes run from to which f sent =
+    delivery_accepted x y given.setting notes (run_kept x y given.setting given.sound given.laws notes run) to from which f sent

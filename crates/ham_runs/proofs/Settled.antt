@@ -8,16 +8,15 @@ use Rattle.ham_frame.specs.declared.frame.Frame.TheVariants.{Bye}
 use Rattle.ham_plan.specs.Lists.{In}
 use Rattle.ham_laws.specs.Executions.{IsSound}
 use Rattle.ham_laws.specs.Drain.{IsWaiting}
-use Rattle.ham_runs.specs.Law.{Laws}
+use Rattle.ham_runs.specs.Facts.{constraints, IsSetting, Laws, IsGiven}
 use Rattle.ham_turns.specs.Settings.{Rules, Setting, meaning_by, IsReplica}
-use Rattle.ham_runs.specs.Facts.{constraints, IsSetting}
 use Rattle.ham_turns.specs.Words.{ReplicaWords, Intake, PartComes, Beat, place_of}
 use Rattle.ham_turns.specs.Work.{first_of_two, own_work}
 use Rattle.ham_turns.specs.Ready.{IsSettled, DrainsHere}
 use Rattle.ham_turns.specs.Ready.LogsReady.{Stop}
 use Rattle.ham_runs.specs.Runs.{Note, log_of, decisions, execution, arrived, places, words_of, MayTake, IsNext, IsRun}
 use Rattle.ham_runs.specs.Next.{note_by}
-use Rattle.ham_runs.specs.Claims.{IsGiven, words_at, ReadyByNeeds, RunsAreSettled, Leaves, TornAndTicksLeave}
+use Rattle.ham_runs.specs.Claims.{words_at, ReadyByNeeds, RunsAreSettled, Leaves, TornAndTicksLeave}
 use Rattle.ham_plan.proofs.Lists.{true_or_false}
 use Rattle.ham_laws.proofs.Drain.{settled}
 use Rattle.ham_runs.proofs.Kept.{pushed_same}

@@ -8,16 +8,16 @@ use Rattle.ham_meaning.specs.Relations.{Meaning}
 use Rattle.ham_plan.specs.Lists.{In, StartsWith}
 use Rattle.ham_laws.specs.Executions.{Constraints, Execution, IsSound, Needs, IsClosed, IsClosedAfter}
 use Rattle.ham_laws.specs.Counts.{of_lane}
-use Rattle.ham_runs.specs.Law.{Laws}
+use Rattle.ham_runs.specs.Facts.{constraints, IsSetting, Laws, IsGiven}
 use Rattle.ham_turns.specs.Settings.{Rules, Setting, meaning_by}
-use Rattle.ham_runs.specs.Facts.{constraints, IsSetting}
 use Rattle.ham_runs.specs.Runs.{Decision, log_of, decisions, execution_of}
-use Rattle.ham_runs.specs.Claims.{IsGiven, IsSingle, LogsFollow}
+use Rattle.ham_runs.specs.Claims.{LogsFollow}
 use Rattle.ham_laws.proofs.Bridge.{calls_after, front_closed}
 use Rattle.ham_laws.proofs.Counts.{count_by-cons, count_within, distinct}
 use Rattle.ham_runs.proofs.Decisions.{places_of, found}
 use Rattle.ham_runs.proofs.Kept.{Kept, shares, lane_logged}
 use Rattle.ham_runs.proofs.Steps.{run_kept}
+use Rattle.ham_runs.proofs.PlanSettings.{DecidesAll}
 
 -- ---- lists from their ends
 pub record Ends {X : Type 0} (xs : List X) : Type 0 where
@@ -70,7 +70,7 @@ module _ (m : Meaning) (p : Constraints) (e : Execution Place m.Act) where
         ];
       }
 
-module _ (x : Rules) (y : Setting) (setting : IsSetting x y) (sound : IsSound (meaning_by x) (constraints y)) (laws : Laws (meaning_by x)) (single : IsSingle y)
+module _ (x : Rules) (y : Setting) (setting : IsSetting x y) (sound : IsSound (meaning_by x) (constraints y)) (laws : Laws (meaning_by x)) (single : DecidesAll y)
     (ds : List Decision) (log : ℕ → List Place) (kept : Kept x y ds log) where
   -- a decided call is in the one lane, which replica 1 decides
   one_lane : (c d : Place) → In c (places_of ds) → In d (places_of ds) → c.lane ≡ d.lane
@@ -142,6 +142,6 @@ module _ (x : Rules) (y : Setting) (setting : IsSetting x y) (sound : IsSound (m
           let more = first_more c.lane (length (log r)) (length (log 1) - length (log r)) in
           (more.0, is_1 ∙ ap (first_calls c.lane) (sym sum) ∙ more.1 ∙ ap (λ l. l ++ more.0) (sym is_r))
 
-pub logs_follow : (x : Rules) (y : Setting) → IsGiven x y → LogsFollow x y
+pub logs_follow : (x : Rules) (y : Setting) → IsGiven x y → DecidesAll y → LogsFollow x y
 logs_follow x y given single notes run r =
     follows_first x y given.setting given.sound given.laws single (decisions notes) (log_of notes) (run_kept x y given.setting given.sound given.laws notes run).kept r

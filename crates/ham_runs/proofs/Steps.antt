@@ -20,9 +20,8 @@ use Rattle.ham_frame.specs.declared.frame.Frame.TheVariants as frames
 use Rattle.ham_frame.specs.declared.frame.Frame.TheVariants.{Hello, Ack, Request, Verdict, Bye}
 use Rattle.ham_plan.specs.Lists.{In}
 use Rattle.ham_laws.specs.Executions.{IsSound, IsClosed, IsWellCoordinated}
-use Rattle.ham_runs.specs.Law.{Laws}
+use Rattle.ham_runs.specs.Facts.{constraints, IsSetting, Laws}
 use Rattle.ham_turns.specs.Settings.{Rules, Setting, meaning_by}
-use Rattle.ham_runs.specs.Facts.{constraints, IsSetting}
 use Rattle.ham_turns.specs.Words.{ReplicaWords, Intake, ActComes, FrameComes, PartComes, Beat, place_of, in_lane, numbered}
 use Rattle.ham_turns.specs.Work.{lane_here, new_call, ruling_of, issued_by, answer_of, ruled_to, ruled_of, place_made, asked_by, request_in, ruled_as, ruling_in, verdict_in, first_of_two}
 use Rattle.ham_turns.specs.Sends.{peers, decided_by, to_peers, back, due_calls, due_requests, due_to, sent_back, sent_issued, sent_by}

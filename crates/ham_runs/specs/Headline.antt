@@ -1,7 +1,14 @@
--- What is so of every run, at each moment.
+-- What is so of every run.
+--     AtEachMoment, OfEachTurn     at first and after each note; of each turn, with what was noted before it
+--     IsSafe                       the invariants, equal states, and which calls are logged
+--     DecidesExactly               what is forbidden, and what is ruled on requests
+--     LogsItsReach, IsAccepted     what a turn logs; that no delivery is refused
+--     IsDecidedOnce                requests are decided once, in order, and told so
+--     IsFaithful                   all of it
 use Rattle.std.specs.Prelude.{◌≡◌, ◌≢◌, ◌↔◌, ℕ, ◌+◌, ◌<◌, ◌≤◌, ◌==◌, ◌&&◌, if◌then◌else◌, List, [], ◌∷◌, ◌++◌, length, Option, Some, None, ⊤}
 use Rattle.std.specs.List.{range_with_len}
 use Rattle.ham_frame.specs.declared.frame.Ruling.{Ruling}
+use Rattle.ham_frame.specs.declared.frame.Ruled.{Ruled}
 use Rattle.ham_frame.specs.declared.frame.Frame.{Frame}
 use Rattle.ham_turns.specs.Refusals.{deliver_refusal}
 use Rattle.ham_syntax.specs.declared.act.Act.{Act}
@@ -19,9 +26,9 @@ use Rattle.ham_laws.specs.Coordinated.{IsPermissibleThroughout}
 use Rattle.ham_laws.specs.Drain.{InReach}
 use Rattle.ham_turns.specs.Settings.{Rules, Setting, meaning_by}
 use Rattle.ham_runs.specs.Facts.{constraints}
-use Rattle.ham_turns.specs.Words.{Intake, ActComes, FrameComes, PartComes, Beat, place_of}
+use Rattle.ham_turns.specs.Words.{Intake, ActComes, FrameComes, PartComes, Beat, place_of, numbered}
 use Rattle.ham_turns.specs.Work.{lane_here, ruling_by, place_made}
-use Rattle.ham_runs.specs.Runs.{Note, execution, decided_execution, log_of, arrived, places, on_link, rulings_of, words_of, IsRun}
+use Rattle.ham_runs.specs.Runs.{Note, execution, decided_execution, log_of, arrived, places, on_link, requests_of, rulings_of, words_of, IsRun}
 
 abbrev pub AtEachMoment : (List Note → Type 0) → List Note → Type 0
 AtEachMoment Holds [] = Holds []
@@ -33,7 +40,9 @@ OfEachTurn Holds (n ∷ earlier) = Holds earlier n × OfEachTurn Holds earlier
 
 pub record IsSafe (x : Rules) (y : Setting) (notes : List Note) : Type 0 where
   pub invariant : (r : ℕ) → x.Invariant (words_of x y notes r).state
+  -- whatever the order of their logs
   pub agree : (r q : ℕ) → SameCalls (log_of notes r) (log_of notes q) → (words_of x y notes r).state ≡ (words_of x y notes q).state
+  -- each logged call was permissible at its place
   pub permissible : (r : ℕ) → IsPermissibleThroughout (meaning_by x) (execution notes) (log_of notes r)
   pub once : (r : ℕ) → IsOnceEach (log_of notes r)
   -- a call that came is logged exactly where its needs are
@@ -64,16 +73,24 @@ pub record IsNextRequest (earlier : List Note) (n : Note) : Type 0 where
   pub took : n.took ≡ FrameComes from which (frames.Request group number act)
   pub next : number ≡ length (rulings_of earlier n.at from group) + 1
 
--- what is decided here is forbidden exactly where the state before forbids it, for the outcome that is named
+-- what is forbidden, and what is ruled on a request
 pub record DecidesExactly (x : Rules) (y : Setting) (earlier : List Note) (n : Note) : Type 0 where
+  -- an issue that is decided here is impermissible exactly where the state before forbids it, for the condition that is named
   pub issue : (a : Act) (u : Outcome) → n.took ≡ ActComes a → y.decider (lane_here y n.at a) ≡ n.at →
       n.answer ≡ whats.Issued (issued.Impermissible u) ↔ (x.IsOutcome (words_of x y earlier n.at).state a u × (u ≢ Yes))
+  -- no other answer is
   pub only_here : (u : Outcome) → n.answer ≡ whats.Issued (issued.Impermissible u) →
       (a : Act) × (n.took ≡ ActComes a) × (y.decider (lane_here y n.at a) ≡ n.at)
+  -- a request that is the next is ruled as the state before says, and full where the lane has no room
   pub request : (q : IsNextRequest earlier n) (calls : ℕ) (u : Outcome) → calls ≡ length ((words_of x y earlier n.at).decided q.group) → calls < x.lane_limit →
       n.ruled ≡ Some (ruling_by (calls + 1) u) ↔ x.IsOutcome (words_of x y earlier n.at).state q.act u
   pub full : (q : IsNextRequest earlier n) → x.lane_limit ≤ length ((words_of x y earlier n.at).decided q.group) → n.ruled ≡ Some rulings.Full
+  pub always : IsNextRequest earlier n → (v : Ruling) × (n.ruled ≡ Some v)
+  -- nothing else is ruled on
   pub only_next : (v : Ruling) → n.ruled ≡ Some v → IsNextRequest earlier n
+  -- it is what its sender asked, where the calls of its lane are decided
+  pub asked : (q : IsNextRequest earlier n) →
+      (numbered (requests_of earlier q.from q.group) q.number ≡ Some q.act) × (lane_here y q.from q.act ≡ q.group) × (y.decider q.group ≡ n.at)
 
 -- no delivery is refused
 abbrev pub IsAccepted : Rules → Setting → List Note → Note → Type 0
@@ -92,7 +109,11 @@ decided_numbers [] r from g = []
 decided_numbers (n ∷ earlier) r from g = if n.at == r then decided_numbers earlier r from g ++ numbers_ruled from g n.took n.ruled else decided_numbers earlier r from g
 
 pub record IsDecidedOnce (notes : List Note) : Type 0 where
+  -- the numbers 1, 2 and so on
   pub in_order : (r from g : ℕ) → decided_numbers notes r from g ≡ range_with_len 1 (length (rulings_of notes r from g))
+  -- a verdict that was sent tells the ruling that is kept, so all verdicts on a request agree
+  pub as_kept : (from to g i : ℕ) (v : Ruling) → In (frames.Verdict g i v) (on_link notes from to) →
+      (d : Ruled) × (numbered (rulings_of notes from to g) i ≡ Some d) × (d.ruling ≡ v)
   pub one_verdict : (from to g i : ℕ) (v u : Ruling) → In (frames.Verdict g i v) (on_link notes from to) → In (frames.Verdict g i u) (on_link notes from to) → v ≡ u
 
 pub record IsFaithful (x : Rules) (y : Setting) (notes : List Note) : Type 0 where

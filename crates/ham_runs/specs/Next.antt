@@ -1,4 +1,7 @@
 -- A run as a function of its inputs.
+--     note_by, next_note     what is noted of a turn with these calls drained, and with those that the computed drain gives
+--     Input, inputs          what is asked of the replicas; what was asked in a run
+--     run_of                 the run of a list of inputs
 use Rattle.std.specs.Prelude.{ℕ, zero, suc, ◌+◌, Bool, true, not, ◌&&◌, ◌==◌, nat_lt, nat_le, if◌then◌else◌, List, [], ◌∷◌, ◌++◌, fold, length, Option, Some, None, is_some, count_by}
 use Rattle.ham_syntax.specs.declared.act.Act.{Act}
 use Rattle.ham_syntax.specs.declared.act.Call.{Call}
@@ -35,6 +38,7 @@ at_of (Deliver to from k) = to
 at_of (Tear to from k) = to
 at_of (Tick r) = r
 
+-- no frame of that number was sent: nothing is taken in
 abbrev pub found : (Frame → Intake) → Option Frame → Option Intake
 found make None = None
 found make (Some f) = Some (make f)
@@ -48,6 +52,18 @@ intake_of notes (Tick r) = Some Beat
 abbrev pub is_replica : Setting → ℕ → Bool
 is_replica y r = nat_lt 0 r && nat_le r y.replicas
 
+-- the input that is noted as this
+abbrev pub input_of : ℕ → Intake → Input
+input_of r (ActComes a) = Issue r a
+input_of r (FrameComes from k f) = Deliver r from k
+input_of r (PartComes from k f) = Tear r from k
+input_of r Beat = Tick r
+
+-- the inputs of a run, the oldest first
+abbrev pub inputs : List Note → List Input
+inputs [] = []
+inputs (n ∷ earlier) = inputs earlier ++ input_of n.at n.took ∷ []
+
 -- ---- the drain, computed, and the run of inputs
 
 abbrev pub within_test : ReplicaWords → List ℕ → List ℕ → Bool
@@ -58,6 +74,7 @@ within_test w (n ∷ deps) (s ∷ slots) = nat_le n (w.count_of s) && within_tes
 abbrev pub ready_test : Setting → ReplicaWords → Call → Bool
 ready_test y w c = nat_lt c.lane y.lanes && ((c.number == count_by (in_lane c.lane) w.log + 1) && within_test w c.deps (y.needs c.act.method))
 
+-- the one of the lesser lane
 abbrev pub lesser : Call → Option Call → Call
 lesser c None = c
 lesser c (Some d) = if nat_lt d.lane c.lane then d else c
@@ -70,10 +87,12 @@ abbrev pub drained_from : Rules → Setting → (ReplicaWords → List Call) →
 drained_from x y more w None = []
 drained_from x y more w (Some c) = c ∷ more (logged_one x y w c)
 
+-- at most so many of these calls, each the ready one of the least lane
 abbrev pub drained_by : Rules → Setting → ℕ → ReplicaWords → List Call → List Call
 drained_by x y zero w calls = []
 drained_by x y (suc n) w calls = drained_from x y (λ v. drained_by x y n v calls) w (least_ready y w calls)
 
+-- the words after a drain
 abbrev pub logged_all : Rules → Setting → ReplicaWords → List Call → ReplicaWords
 logged_all x y w [] = w
 logged_all x y w (c ∷ rest) = logged_all x y (logged_one x y w c) rest

@@ -1,4 +1,8 @@
--- Runs: lists of notes, THE NEWEST FIRST, so that what stood before a turn is the rest of the list.
+-- Runs: lists of notes, the newest first, so that what stood before a turn is the rest of the list.
+--     Note                     what is noted of a turn
+--     execution, log_of        the decided calls and the logs
+--     on_link, words_of        what was sent on a link; the words of a replica, read off the notes
+--     MayTake, IsNext, IsRun   what may happen next, and what is noted then
 use Rattle.std.specs.Prelude.{◌≡◌, ℕ, Bool, ◌==◌, max, cond, if◌then◌else◌, List, [], ◌∷◌, ◌++◌, map, Option, Some, None, count_by, ⊤}
 use Rattle.ham_syntax.specs.declared.act.Act.{Act}
 use Rattle.ham_syntax.specs.declared.act.Place.{Place}
@@ -18,6 +22,7 @@ use Rattle.ham_turns.specs.Sends.{sent_by}
 use Rattle.ham_turns.specs.Refusals.{issue_refusal}
 
 pub record Note : Type 0 where
+  -- the replica
   pub at : ℕ
   pub took : Intake
   pub answer : What
@@ -31,6 +36,7 @@ pub record Note : Type 0 where
 
 -- ---- the execution
 
+-- a decided call, the replica that decided it, and what that replica had logged
 pub record Decision : Type 0 where
   pub call : Call
   pub by : ℕ
@@ -40,14 +46,17 @@ abbrev pub log_of : List Note → ℕ → List Place
 log_of [] r = []
 log_of (n ∷ earlier) r = if n.at == r then log_of earlier r ++ n.logged else log_of earlier r
 
+-- what a turn adds to the decisions
 abbrev pub decision_of : ℕ → List Place → Option Call → List Decision
 decision_of r log None = []
 decision_of r log (Some c) = record { call = c; by = r; before = log } ∷ []
 
+-- in their order
 abbrev pub decisions : List Note → List Decision
 decisions [] = []
 decisions (n ∷ earlier) = decisions earlier ++ decision_of n.at (log_of earlier n.at) n.made
 
+-- what is said of the decision of the call at a place
 abbrev pub of_place : {B : Type 0} → B → (Decision → B) → List Decision → Place → B
 of_place none say [] c = none
 of_place none say (d ∷ rest) c = if same_place (place_of d.call) c then say d else of_place none say rest c
@@ -78,6 +87,7 @@ decided_execution n earlier = execution_of (decisions (n ∷ earlier)) (pushed (
 
 -- ---- the words, read off the notes
 
+-- the frames to a replica
 abbrev pub addressed : ℕ → List Out → List Frame
 addressed to [] = []
 addressed to (x ∷ rest) = if x.to == to then x.frame ∷ addressed to rest else addressed to rest
@@ -87,6 +97,7 @@ abbrev pub on_link : List Note → ℕ → ℕ → List Frame
 on_link [] from to = []
 on_link (n ∷ earlier) from to = if n.at == from then on_link earlier from to ++ addressed to n.sent else on_link earlier from to
 
+-- the calls that were decided in a lane, in order
 abbrev pub call_of_lane : ℕ → List Decision → List Call
 call_of_lane lane [] = []
 call_of_lane lane (d ∷ rest) = if in_lane lane (place_of d.call) then d.call ∷ call_of_lane lane rest else call_of_lane lane rest
@@ -96,18 +107,22 @@ abbrev pub arrived : List Note → ℕ → List Call
 arrived [] r = []
 arrived (n ∷ earlier) r = if n.at == r then arrived earlier r ++ call_in n.took else arrived earlier r
 
+-- the requests of a replica to a group, in order
 abbrev pub requests_of : List Note → ℕ → ℕ → List Act
 requests_of [] r g = []
 requests_of (n ∷ earlier) r g = if n.at == r then requests_of earlier r g ++ request_in g n.took n.answer else requests_of earlier r g
 
+-- what a replica ruled on the requests of a sender to a group, in order
 abbrev pub rulings_of : List Note → ℕ → ℕ → ℕ → List Ruled
 rulings_of [] r from g = []
 rulings_of (n ∷ earlier) r from g = if n.at == r then rulings_of earlier r from g ++ ruling_in from g n.took n.ruled else rulings_of earlier r from g
 
+-- the first verdict that came on a request
 abbrev pub verdict_of : List Note → ℕ → ℕ → ℕ → Option Ruling
 verdict_of [] r g n = None
 verdict_of (m ∷ earlier) r g n = if m.at == r then first_of_two (verdict_of earlier r g n) (verdict_in g n m.took) else verdict_of earlier r g n
 
+-- the greatest count that a peer acknowledged
 abbrev pub acked_of : List Note → ℕ → ℕ → ℕ → ℕ
 acked_of [] r lane peer = 0
 acked_of (n ∷ earlier) r lane peer = if n.at == r then max (acked_of earlier r lane peer) (ack_in lane peer n.took) else acked_of earlier r lane peer
@@ -116,6 +131,7 @@ acked_of (n ∷ earlier) r lane peer = if n.at == r then max (acked_of earlier r
 abbrev pub in_slot : Setting → Execution Place Act → ℕ → Place → Bool
 in_slot y e s c = y.slot (e.act c).method (y.decider c.lane) == s
 
+-- a replica has the decided calls of its own lanes
 abbrev pub decided_here : Setting → ℕ → ℕ → List Call → List Call
 decided_here y r lane calls = if y.decider lane == r then calls else []
 
