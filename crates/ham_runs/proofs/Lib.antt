@@ -21,5 +21,6 @@ pub mod Slots
 pub mod Steps
 pub mod Objects
 pub mod Telling
+pub mod Leading
 pub mod Slips
 pub mod Outcomes

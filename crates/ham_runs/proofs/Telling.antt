@@ -16,10 +16,10 @@ use Rattle.ham_runs.specs.Next.Input.{Issue, Deliver, Tear, Tick}
 use Rattle.ham_turns.specs.Settings.{Rules, setting_of}
 use Rattle.ham_runs.specs.Story.{HasOutcomes, three, setting, story, told}
 
-differ : false ≡ true → ⊥
+pub differ : false ≡ true → ⊥
 differ h = cc
 
-bool_same : (a b : Bool) → (a ≡ true → b ≡ true) → (b ≡ true → a ≡ true) → a ≡ b
+pub bool_same : (a b : Bool) → (a ≡ true → b ≡ true) → (b ≡ true → a ≡ true) → a ≡ b
 bool_same true b to from = sym (to refl)
 bool_same false true to from = from refl
 bool_same false false to from = refl
@@ -79,7 +79,7 @@ conflict_same m n = bool_same _ _
     subst (λ z. conflicts three z n ≡ true) (sym (eqb-true m 1 w.0)) (subst (λ z. conflicts three 1 z ≡ true) (sym (eqb-true n 1 w.1)) refl))
     (λ t. let w = conflict_only m n t in subst (λ z. withdrawals.conflict z n ≡ true) (sym w.0) (subst (λ z. withdrawals.conflict 1 z ≡ true) (sym w.1) refl))
 
-depends_same : (m n : ℕ) → withdrawals.depends m n ≡ depends_on three m n
+pub depends_same : (m n : ℕ) → withdrawals.depends m n ≡ depends_on three m n
 depends_same m n = bool_same _ _
     (λ t. let w = and_parts (eqb m 1) (eqb n 0) t in
     subst (λ z. depends_on three z n ≡ true) (sym (eqb-true m 1 w.0)) (subst (λ z. depends_on three 1 z ≡ true) (sym (eqb-true n 0 w.1)) refl))

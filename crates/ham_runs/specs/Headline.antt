@@ -55,14 +55,6 @@ LogsItsReach x y earlier n = (c : Place) →
     In c (log_of earlier n.at ++ n.logged) ↔
     InReach (meaning_by x) (constraints y) (decided_execution n earlier) (log_of earlier n.at ++ place_made n.made) (places (arrived (n ∷ earlier) n.at)) c
 
-abbrev pub number_ruled : ℕ → ℕ → ℕ → Frame → List ℕ
-number_ruled from g q (frames.Request h i a) = if (q == from) && (h == g) then i ∷ [] else []
-number_ruled from g q (frames.Call c) = []
-number_ruled from g q (frames.Ack lane count) = []
-number_ruled from g q (frames.Verdict h i v) = []
-number_ruled from g q (frames.Hello version digest sender of) = []
-number_ruled from g q frames.Bye = []
-
 -- a request that is the next of its sender and group
 pub record IsNextRequest (earlier : List Note) (n : Note) : Type 0 where
   pub from : ℕ
@@ -96,6 +88,16 @@ pub record DecidesExactly (x : Rules) (y : Setting) (earlier : List Note) (n : N
 abbrev pub IsAccepted : Rules → Setting → List Note → Note → Type 0
 IsAccepted x y earlier n = (from k : ℕ) (f : Frame) → n.took ≡ FrameComes from k f → deliver_refusal x y (words_of x y earlier n.at) n.at from f ≡ None
 
+-- the number of a request of this sender to this group
+abbrev pub number_ruled : ℕ → ℕ → ℕ → Frame → List ℕ
+number_ruled from g q (frames.Request h i a) = if (q == from) && (h == g) then i ∷ [] else []
+number_ruled from g q (frames.Call c) = []
+number_ruled from g q (frames.Ack lane count) = []
+number_ruled from g q (frames.Verdict h i v) = []
+number_ruled from g q (frames.Hello version digest sender of) = []
+number_ruled from g q frames.Bye = []
+
+-- the number of the request on which a turn ruled
 abbrev pub numbers_ruled : ℕ → ℕ → Intake → Option Ruling → List ℕ
 numbers_ruled from g (FrameComes q k f) (Some v) = number_ruled from g q f
 numbers_ruled from g (FrameComes q k f) None = []

@@ -1,4 +1,4 @@
-//! That the premises of the laws are met, by a run of three replicas; and what slips in the definitions would do.
+//! That the premises of the laws are met, by two runs of three replicas; and what slips in the definitions would do.
 
 ghost use Rattle.std.specs.Prelude.{◌≡◌};
 ghost use Rattle.ham_syntax.specs.Objects.{Schema};
@@ -9,6 +9,7 @@ ghost use Rattle.ham_runs.specs.Runs.{IsRun};
 ghost use Rattle.ham_runs.specs.Next.{run_of};
 ghost use Rattle.ham_runs.specs.Headline.{IsFaithful};
 ghost use Rattle.ham_runs.specs.Story.{HasOutcomes, three, setting, story, told};
+ghost use Rattle.ham_runs.specs.Leaders.{two_led, leaders, asked_of_both, led};
 ghost use Rattle.ham_runs.specs.Slips.{SlipsShow};
 
 use crate::laws::{inputs_give_runs, plans_are_settings, runs_are_faithful};
@@ -23,6 +24,18 @@ pub fn story_is_told()
     ensures faithful { IsFaithful (rules_of bank) setting told }
 {
     plans_are_settings();
+    inputs_give_runs();
+    runs_are_faithful();
+}
+
+/// A run in which two groups have different leaders, and a call waits for one of the other group.
+pub fn leaders_are_told()
+    ensures planned { IsPlanned bank two_led }
+    ensures computed { (o : Schema) → HasOutcomes (rules_of o) → run_of (rules_of o) leaders asked_of_both ≡ led }
+    ensures run { IsRun (rules_of bank) leaders led }
+    ensures faithful { IsFaithful (rules_of bank) leaders led }
+{
+    story_is_told();
     inputs_give_runs();
     runs_are_faithful();
 }
