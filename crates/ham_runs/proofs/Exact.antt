@@ -15,10 +15,10 @@ use Rattle.ham_frame.specs.declared.frame.Frame.TheVariants as frames
 use Rattle.ham_frame.specs.declared.frame.Frame.TheVariants.{Hello, Ack, Request, Verdict, Bye}
 use Rattle.ham_turns.specs.Settings.{Rules, Setting}
 use Rattle.ham_runs.specs.Facts.{IsSetting}
-use Rattle.ham_turns.specs.Words.{Intake, ActComes, FrameComes, PartComes, Beat, place_of, numbered}
+use Rattle.ham_turns.specs.Words.{Intake, ActComes, FrameComes, PartComes, Beat, place_of}
 use Rattle.ham_turns.specs.Work.{lane_here, new_call, ruling_by, ruling_of, issued_by, answer_of, ruled_of}
-use Rattle.ham_runs.specs.Runs.{Note, on_link, requests_of, rulings_of, words_of, MayTake, IsNext}
-use Rattle.ham_runs.specs.Headline.{IsNextRequest, DecidesExactly}
+use Rattle.ham_runs.specs.Runs.{Note, on_link, rulings_of, words_of, MayTake, IsNext}
+use Rattle.ham_runs.specs.Headline.{IsNextRequest, IsAsked, DecidesExactly}
 use Rattle.ham_runs.proofs.Decisions.{numbered_in}
 use Rattle.ham_runs.proofs.Listed.{none_some}
 use Rattle.ham_runs.proofs.Links.{RunKept}
@@ -119,11 +119,11 @@ module _ (x : Rules) (y : Setting) (setting : IsSetting x y) (earlier : List Not
   only_next v h (PartComes from k f) te = absurd (none_some v (sym (ruled _ te) ∙ h))
   only_next v h Beat te = absurd (none_some v (sym (ruled _ te) ∙ h))
 
-  asked : (q : IsNextRequest earlier n) → (numbered (requests_of earlier q.from q.group) q.number ≡ Some q.act) × (lane_here y q.from q.act ≡ q.group) × (y.decider q.group ≡ n.at)
+  asked : (q : IsNextRequest earlier n) → IsAsked y earlier n q
   asked q =
       let f = Request q.group q.number q.act in
       let so = kept.links q.from n.at f (numbered_in (on_link earlier q.from n.at) q.which f (subst (λ t. MayTake x y earlier n.at t) q.took next.may)) in
-      (so.1, (kept.asked q.from q.group q.number q.act so.1).lane, so.0)
+      record { asked = so.1; lane = (kept.asked q.from q.group q.number q.act so.1).lane; decides = so.0 }
 
   pub decides_exactly : DecidesExactly x y earlier n
   decides_exactly =

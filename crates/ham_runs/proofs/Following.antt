@@ -51,7 +51,7 @@ module _ (x : Rules) (y : Setting) (setting : IsSetting x y) (sound : IsSound (m
       let keeps : (p : Place) → w.kept p ≡ at_place calls p =
       λ p. ap (λ f. f p) (made_kept _ (made_of x y (words_of x y earlier r) r took)) ∙ sym (at_place_push (arrived earlier r) (call_in took) p) in
       (refined x y setting sound laws earlier r took _ (words_of x y earlier r) _ run here may refl
-      (drain_follows x y calls agree (length calls) w keeps (count_by-le-length _ calls))).0
+      (drain_follows x y calls agree (length calls) w keeps (count_by-le-length _ calls))).run
     where
       made_kept : (w : ReplicaWords) (m : Option Call) → (logged_made x y w m).kept ≡ w.kept
       made_kept w None = refl

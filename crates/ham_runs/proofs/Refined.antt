@@ -16,9 +16,9 @@ use Rattle.ham_turns.specs.Words.{ReplicaWords, Intake, place_of}
 use Rattle.ham_turns.specs.Work.{call_in, place_made, decided_after, logged_one, logged_made, taken, own_work}
 use Rattle.ham_turns.specs.Ready.{IsReadyHere, LogsReady, DrainsHere}
 use Rattle.ham_turns.specs.Ready.LogsReady.{Stop, Log}
-use Rattle.ham_runs.specs.Runs.{Note, Decision, no_act, of_place, decision_of, decided_here, call_of_lane, execution, decided_execution, in_slot, log_of, decisions, arrived, pushed, places, words_of, MayTake, IsRun}
+use Rattle.ham_runs.specs.Runs.{Note, Decision, no_act, of_place, decision_of, decided_here, call_of_lane, execution, decided_execution, in_slot, log_of, decisions, arrived, pushed, places, words_of, MayTake, IsNext, IsRun}
 use Rattle.ham_runs.specs.Next.{note_by}
-use Rattle.ham_runs.specs.Claims.{TurnsRefine}
+use Rattle.ham_runs.specs.Claims.{GoesOn, TurnsRefine}
 use Rattle.ham_plan.proofs.Lists.{true_or_false}
 use Rattle.ham_laws.proofs.Bridge.{calls_after}
 use Rattle.ham_laws.proofs.Lanes.{count_by-same}
@@ -242,41 +242,32 @@ module _ (x : Rules) (y : Setting) (setting : IsSetting x y) (sound : IsSound (m
 -- a turn that keeps the words
 module _ (x : Rules) (y : Setting) (setting : IsSetting x y) (sound : IsSound (meaning_by x) (constraints y)) (laws : Laws (meaning_by x)) where
   turn_refined : (earlier : List Note) (r : ℕ) (took : Intake) (calls : List Call) (after : ReplicaWords) → IsRun x y earlier → IsReplica y r → MayTake x y earlier r took →
-      DrainsHere x y (own_work x y (words_of x y earlier r) r took) calls after →
-      IsRun x y (note_by x y (words_of x y earlier r) r took calls ∷ earlier) ×
-      (after ≡ words_of x y (note_by x y (words_of x y earlier r) r took calls ∷ earlier) r) ×
-      ((q : ℕ) → q ≢ r → words_of x y earlier q ≡ words_of x y (note_by x y (words_of x y earlier r) r took calls ∷ earlier) q)
+      DrainsHere x y (own_work x y (words_of x y earlier r) r took) calls after → GoesOn x y earlier (note_by x y (words_of x y earlier r) r took calls) after
   turn_refined earlier r took calls after run here may drains =
       let n : Note = note_by x y (words_of x y earlier r) r took calls in
       let kept = run_kept x y setting sound laws earlier run in
       let begun : IsBegun x y earlier n = record { replica = here; may = may; made = refl } in
-      let d = (drained_at x y setting sound laws earlier n kept begun drains (log_of earlier r ++ place_made n.made) (own_mid x y setting sound laws earlier n kept begun) (own_closed x y setting sound laws earlier n kept begun)).0 in (
-        (
-          record {
-            replica = here;
-            may = may;
-            answer = refl;
-            ruled = refl;
-            made = refl;
-            logged = subst (λ l. Drains (meaning_by x) (constraints y) (decided_execution n earlier) (places (arrived (n ∷ earlier) r)) (log_of earlier r ++ place_made n.made) l)
-                (append_assoc (log_of earlier r) (place_made n.made) (places calls)) d;
-            sent = refl;
-          },
-          run,
-        ),
-        after_same x y setting sound laws earlier n kept begun after calls refl drains,
-        others_same x y setting sound laws earlier n kept begun,
-      )
+      let d = (drained_at x y setting sound laws earlier n kept begun drains (log_of earlier r ++ place_made n.made) (own_mid x y setting sound laws earlier n kept begun) (own_closed x y setting sound laws earlier n kept begun)).0 in
+      let next : IsNext x y earlier n = record {
+        replica = here;
+        may = may;
+        answer = refl;
+        ruled = refl;
+        made = refl;
+        logged = subst (λ l. Drains (meaning_by x) (constraints y) (decided_execution n earlier) (places (arrived (n ∷ earlier) r)) (log_of earlier r ++ place_made n.made) l)
+            (append_assoc (log_of earlier r) (place_made n.made) (places calls)) d;
+        sent = refl;
+      } in
+      record {
+        run = (next, run);
+        own = after_same x y setting sound laws earlier n kept begun after calls refl drains;
+        others = others_same x y setting sound laws earlier n kept begun;
+      }
 
   pub refined : (earlier : List Note) (r : ℕ) (took : Intake) (calls : List Call) (w after : ReplicaWords) → IsRun x y earlier → IsReplica y r → MayTake x y earlier r took →
-      w ≡ words_of x y earlier r → DrainsHere x y (own_work x y w r took) calls after →
-      IsRun x y (note_by x y w r took calls ∷ earlier) ×
-      (after ≡ words_of x y (note_by x y w r took calls ∷ earlier) r) ×
-      ((q : ℕ) → q ≢ r → words_of x y earlier q ≡ words_of x y (note_by x y w r took calls ∷ earlier) q)
+      w ≡ words_of x y earlier r → DrainsHere x y (own_work x y w r took) calls after → GoesOn x y earlier (note_by x y w r took calls) after
   refined earlier r took calls w after run here may same =
-      subst (λ z. DrainsHere x y (own_work x y z r took) calls after →
-      IsRun x y (note_by x y z r took calls ∷ earlier) × (after ≡ words_of x y (note_by x y z r took calls ∷ earlier) r) ×
-      ((q : ℕ) → q ≢ r → words_of x y earlier q ≡ words_of x y (note_by x y z r took calls ∷ earlier) q)) (sym same)
+      subst (λ z. DrainsHere x y (own_work x y z r took) calls after → GoesOn x y earlier (note_by x y z r took calls) after) (sym same)
       (λ drains. turn_refined earlier r took calls after run here may drains)
 
 pub turns_refine : (x : Rules) (y : Setting) → IsGiven x y → TurnsRefine x y

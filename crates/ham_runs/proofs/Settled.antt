@@ -80,10 +80,10 @@ module _ (x : Rules) (y : Setting) (setting : IsSetting x y) (sound : IsSound (m
       let w = words_of x y earlier r in
       let drains : DrainsHere x y (own_work x y w r took) [] w = subst (λ z. DrainsHere x y z [] w) (sym same) (Stop, run_settled earlier run r) in
       let next = refined x y setting sound laws earlier r took [] w w run here may refl drains in (
-        next.0,
+        next.run,
         λ q. elim (true_or_false (eqb q r)) [
-          | inl t ↦ subst (λ z. words_of x y (note_by x y w r took [] ∷ earlier) z ≡ words_of x y earlier z) (sym (eqb-true q r t)) (sym next.1)
-          | inr f ↦ sym (next.2 q (eqb-false q r f))
+          | inl t ↦ subst (λ z. words_of x y (note_by x y w r took [] ∷ earlier) z ≡ words_of x y earlier z) (sym (eqb-true q r t)) (sym next.own)
+          | inr f ↦ sym (next.others q (eqb-false q r f))
         ],
       )
 

@@ -26,15 +26,17 @@ RunsAreFaithful x y = (notes : List Note) → IsRun x y notes → IsFaithful x y
 
 -- ---- replicas make runs
 
--- a replica whose words are the run's, and that drains by numbers and counts, makes the run's next note; then its words
--- are those of the longer run, and so are the words of each other replica, unchanged
+-- the note is the run's next, its replica has these words after it, and each other replica the words that it had
+pub record GoesOn (x : Rules) (y : Setting) (earlier : List Note) (n : Note) (after : ReplicaWords) : Type 0 where
+  pub run : IsRun x y (n ∷ earlier)
+  pub own : after ≡ words_of x y (n ∷ earlier) n.at
+  pub others : (q : ℕ) → q ≢ n.at → words_of x y earlier q ≡ words_of x y (n ∷ earlier) q
+
+-- a replica whose words are the run's, and that drains by numbers and counts, makes the run's next note
 abbrev pub TurnsRefine : Rules → Setting → Type 0
 TurnsRefine x y =
     (earlier : List Note) (r : ℕ) (took : Intake) (calls : List Call) (w after : ReplicaWords) → IsRun x y earlier → IsReplica y r → MayTake x y earlier r took →
-    w ≡ words_of x y earlier r → DrainsHere x y (own_work x y w r took) calls after →
-    IsRun x y (note_by x y w r took calls ∷ earlier) ×
-    (after ≡ words_of x y (note_by x y w r took calls ∷ earlier) r) ×
-    ((q : ℕ) → q ≢ r → words_of x y earlier q ≡ words_of x y (note_by x y w r took calls ∷ earlier) q)
+    w ≡ words_of x y earlier r → DrainsHere x y (own_work x y w r took) calls after → GoesOn x y earlier (note_by x y w r took calls) after
 
 -- no frame that was sent so far would be refused
 abbrev pub FramesAreTaken : Rules → Setting → Type 0

@@ -65,6 +65,12 @@ pub record IsNextRequest (earlier : List Note) (n : Note) : Type 0 where
   pub took : n.took ≡ FrameComes from which (frames.Request group number act)
   pub next : number ≡ length (rulings_of earlier n.at from group) + 1
 
+-- it is what its sender asked, where the calls of its lane are decided
+pub record IsAsked (y : Setting) (earlier : List Note) (n : Note) (q : IsNextRequest earlier n) : Type 0 where
+  pub asked : numbered (requests_of earlier q.from q.group) q.number ≡ Some q.act
+  pub lane : lane_here y q.from q.act ≡ q.group
+  pub decides : y.decider q.group ≡ n.at
+
 -- what is forbidden, and what is ruled on a request
 pub record DecidesExactly (x : Rules) (y : Setting) (earlier : List Note) (n : Note) : Type 0 where
   -- an issue that is decided here is impermissible exactly where the state before forbids it, for the condition that is named
@@ -80,9 +86,7 @@ pub record DecidesExactly (x : Rules) (y : Setting) (earlier : List Note) (n : N
   pub always : IsNextRequest earlier n → (v : Ruling) × (n.ruled ≡ Some v)
   -- nothing else is ruled on
   pub only_next : (v : Ruling) → n.ruled ≡ Some v → IsNextRequest earlier n
-  -- it is what its sender asked, where the calls of its lane are decided
-  pub asked : (q : IsNextRequest earlier n) →
-      (numbered (requests_of earlier q.from q.group) q.number ≡ Some q.act) × (lane_here y q.from q.act ≡ q.group) × (y.decider q.group ≡ n.at)
+  pub asked : (q : IsNextRequest earlier n) → IsAsked y earlier n q
 
 -- no delivery is refused
 abbrev pub IsAccepted : Rules → Setting → List Note → Note → Type 0

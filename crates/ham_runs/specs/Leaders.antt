@@ -1,5 +1,5 @@
 -- A run in which two groups have different leaders: the bank at three replicas, with deposits that conflict, too.
-use Rattle.std.specs.Prelude.{ℕ, true, false, List, [], ◌∷◌, Some, None}
+use Rattle.std.specs.Prelude.{true, false, List, [], ◌∷◌, Some}
 use Rattle.ham_syntax.specs.declared.act.Call.{Call}
 use Rattle.ham_frame.specs.declared.frame.Ruling.TheVariants as rulings
 use Rattle.ham_frame.specs.declared.frame.Frame.TheVariants as frames
