@@ -8,7 +8,7 @@ use Rattle.ham_plan.specs.Lists.{In}
 use Rattle.ham_plan.proofs.Lists.{true_or_false}
 use Rattle.ham_syntax.specs.declared.act.Call.{Call}
 use Rattle.ham_turns.specs.Words.{numbered, in_lane, same_place, place_of}
-use Rattle.ham_runs.specs.Runs.{Decision, no_act, of_place, call_of_lane}
+use Rattle.ham_runs.specs.Runs.{Decision, no_act, of_place, calls_of_lane}
 
 pub same_place_refl : (a : Place) → same_place a a ≡ true
 same_place_refl a = rw (eq-eqb a.lane a.lane refl, eq-eqb a.number a.number refl) refl
@@ -71,7 +71,7 @@ found (d ∷ ds) c h = elim (true_or_false (same_place (place_of d.call) c)) [
 
 -- the calls of a lane
 pub lane_push : (lane : ℕ) (xs : List Decision) (d : Decision) →
-    call_of_lane lane (xs ++ d ∷ []) ≡ call_of_lane lane xs ++ cond (in_lane lane (place_of d.call)) (d.call ∷ []) []
+    calls_of_lane lane (xs ++ d ∷ []) ≡ calls_of_lane lane xs ++ cond (in_lane lane (place_of d.call)) (d.call ∷ []) []
 lane_push lane [] d = by_test (in_lane lane (place_of d.call))
   where
     by_test : (b : Bool) → cond b (d.call ∷ []) [] ≡ cond b (d.call ∷ []) []
@@ -81,23 +81,23 @@ lane_push lane (x ∷ xs) d = elim (true_or_false (in_lane lane (place_of x.call
   | inr f ↦ rw (f, lane_push lane xs d) refl
 ]
 
-pub lane_length : (lane : ℕ) (xs : List Decision) → length (call_of_lane lane xs) ≡ count_by (in_lane lane) (places_of xs)
+pub lane_length : (lane : ℕ) (xs : List Decision) → length (calls_of_lane lane xs) ≡ count_by (in_lane lane) (places_of xs)
 lane_length lane [] = refl
 lane_length lane (x ∷ xs) = sym (by_test (true_or_false (in_lane lane (place_of x.call))) (lane_length lane xs))
   where
-    by_test : (in_lane lane (place_of x.call) ≡ true) ⊎ (in_lane lane (place_of x.call) ≡ false) → length (call_of_lane lane xs) ≡ count_by (in_lane lane) (places_of xs) →
-        count_by (in_lane lane) (places_of (x ∷ xs)) ≡ length (call_of_lane lane (x ∷ xs))
+    by_test : (in_lane lane (place_of x.call) ≡ true) ⊎ (in_lane lane (place_of x.call) ≡ false) → length (calls_of_lane lane xs) ≡ count_by (in_lane lane) (places_of xs) →
+        count_by (in_lane lane) (places_of (x ∷ xs)) ≡ length (calls_of_lane lane (x ∷ xs))
     by_test (inl t) rest = count_by-cons (in_lane lane) (place_of x.call) (places_of xs) ∙ rw (t, ← rest) (omega arith)
     by_test (inr f) rest = count_by-cons (in_lane lane) (place_of x.call) (places_of xs) ∙ rw (f, ← rest) (omega arith)
 
 -- a call of a lane was decided, in that lane
-pub lane_in : (lane : ℕ) (xs : List Decision) (c : Call) → In c (call_of_lane lane xs) →
+pub lane_in : (lane : ℕ) (xs : List Decision) (c : Call) → In c (calls_of_lane lane xs) →
     (d : Decision) × In d xs × (c ≡ d.call) × (c.lane ≡ lane)
 lane_in lane [] c h = absurd h
 lane_in lane (x ∷ xs) c h = by_test (true_or_false (in_lane lane (place_of x.call))) (lane_in lane xs c)
   where
     by_test : (in_lane lane (place_of x.call) ≡ true) ⊎ (in_lane lane (place_of x.call) ≡ false) →
-        (In c (call_of_lane lane xs) → (d : Decision) × In d xs × (c ≡ d.call) × (c.lane ≡ lane)) →
+        (In c (calls_of_lane lane xs) → (d : Decision) × In d xs × (c ≡ d.call) × (c.lane ≡ lane)) →
         (d : Decision) × In d (x ∷ xs) × (c ≡ d.call) × (c.lane ≡ lane)
     by_test (inl t) rest = elim (rw t at h) [
       | inl q ↦ (x, inl refl, q, ap (λ z. z.lane) q ∙ eqb-true x.call.lane lane t)

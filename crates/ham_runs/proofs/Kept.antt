@@ -16,7 +16,7 @@ use Rattle.ham_laws.proofs.Bridge.{calls_after}
 use Rattle.ham_laws.proofs.Lanes.{count_by-same}
 use Rattle.ham_turns.specs.Settings.{Rules, Setting, meaning_by, IsReplica}
 use Rattle.ham_turns.specs.Words.{in_lane, place_of}
-use Rattle.ham_runs.specs.Runs.{Decision, no_act, of_place, call_of_lane, execution_of, pushed, in_slot}
+use Rattle.ham_runs.specs.Runs.{Decision, no_act, of_place, calls_of_lane, execution_of, pushed, in_slot}
 use Rattle.ham_runs.proofs.Decisions.{places_of, places_push, place_in, say_old, say_new, found, lane_push, lane_length}
 
 -- what is kept of a decided call: its decider decides its lane; its counts are those in `before`
@@ -31,7 +31,7 @@ pub record Kept (x : Rules) (y : Setting) (ds : List Decision) (log : ℕ → Li
   pub well : IsWellCoordinated (meaning_by x) (constraints y) (execution_of ds log)
   pub ordered : LanesOrdered (execution_of ds log)
   pub numbers : IsNumbered (execution_of ds log) (λ c. c.number)
-  pub counted : (c : Place) → In c (places_of ds) → c.number ≤ length (call_of_lane c.lane ds)
+  pub counted : (c : Place) → In c (places_of ds) → c.number ≤ length (calls_of_lane c.lane ds)
   -- a place was decided once
   pub unique : (d f : Decision) → In d ds → In f ds → place_of d.call ≡ place_of f.call → d ≡ f
   pub own : (d : Decision) → In d ds → Own x y ds log d
@@ -39,7 +39,7 @@ pub record Kept (x : Rules) (y : Setting) (ds : List Decision) (log : ℕ → Li
 -- what a turn shows of the call that it decides
 pub record IsMade (x : Rules) (y : Setting) (ds : List Decision) (log : ℕ → List Place) (d : Decision) : Type 0 where
   pub before : d.before ≡ log d.by
-  pub number : d.call.number ≡ length (call_of_lane d.call.lane ds) + 1
+  pub number : d.call.number ≡ length (calls_of_lane d.call.lane ds) + 1
   pub replica : IsReplica y d.by
   pub decides : y.decider d.call.lane ≡ d.by
   pub lane : y.lane d.call.act.method d.by ≡ d.call.lane
@@ -95,7 +95,7 @@ module _ (x : Rules) (y : Setting) (setting : IsSetting x y) (sound : IsSound (m
   module _ (d : Decision) (made : IsMade x y ds log d) where
     new : In (place_of d.call) (places_of ds) → ⊥
     new k =
-        let below : d.call.number ≤ length (call_of_lane d.call.lane ds) = kept.counted (place_of d.call) k in
+        let below : d.call.number ≤ length (calls_of_lane d.call.lane ds) = kept.counted (place_of d.call) k in
         let is = made.number in
         omega arith
 
@@ -171,11 +171,11 @@ module _ (x : Rules) (y : Setting) (setting : IsSetting x y) (sound : IsSound (m
       })
     ]
 
-    lane_grown : (lane : ℕ) → length (call_of_lane lane (ds ++ d ∷ [])) ≡ cond (in_lane lane (place_of d.call)) (length (call_of_lane lane ds) + 1) (length (call_of_lane lane ds))
-    lane_grown lane = rw (lane_push lane ds d, length-append (call_of_lane lane ds) (cond (in_lane lane (place_of d.call)) (d.call ∷ []) []))
+    lane_grown : (lane : ℕ) → length (calls_of_lane lane (ds ++ d ∷ [])) ≡ cond (in_lane lane (place_of d.call)) (length (calls_of_lane lane ds) + 1) (length (calls_of_lane lane ds))
+    lane_grown lane = rw (lane_push lane ds d, length-append (calls_of_lane lane ds) (cond (in_lane lane (place_of d.call)) (d.call ∷ []) []))
         (by_test (in_lane lane (place_of d.call)))
       where
-        by_test : (b : Bool) → length (call_of_lane lane ds) + length (cond b (d.call ∷ []) []) ≡ cond b (length (call_of_lane lane ds) + 1) (length (call_of_lane lane ds))
+        by_test : (b : Bool) → length (calls_of_lane lane ds) + length (cond b (d.call ∷ []) []) ≡ cond b (length (calls_of_lane lane ds) + 1) (length (calls_of_lane lane ds))
         by_test true = refl
         by_test false = omega arith
 
@@ -189,8 +189,8 @@ module _ (x : Rules) (y : Setting) (setting : IsSetting x y) (sound : IsSound (m
           ordered = lanes.0;
           numbers = lanes.1;
           counted = λ c k. rw (lane_grown c.lane) (elim (split c k) [
-            | inl j ↦ more (in_lane c.lane (place_of d.call)) c.number (length (call_of_lane c.lane ds)) (kept.counted c j)
-            | inr q ↦ subst (λ (z : Place). z.number ≤ cond (in_lane z.lane (place_of d.call)) (length (call_of_lane z.lane ds) + 1) (length (call_of_lane z.lane ds))) (sym q)
+            | inl j ↦ more (in_lane c.lane (place_of d.call)) c.number (length (calls_of_lane c.lane ds)) (kept.counted c j)
+            | inr q ↦ subst (λ (z : Place). z.number ≤ cond (in_lane z.lane (place_of d.call)) (length (calls_of_lane z.lane ds) + 1) (length (calls_of_lane z.lane ds))) (sym q)
                 (rw (eq-eqb d.call.lane d.call.lane refl) (let is = made.number in omega arith))
           ]);
           unique = λ f g kf kg q. elim (in_last f d ds kf) [

@@ -20,7 +20,7 @@ use Rattle.ham_runs.specs.Facts.{IsSetting}
 use Rattle.ham_turns.specs.Words.{ReplicaWords, Intake, ActComes, FrameComes, PartComes, Beat, numbered}
 use Rattle.ham_turns.specs.Work.{lane_here, new_call, ruling_by, issued_by, made_issued, made_ruled, made_of, request_in, ruling_in}
 use Rattle.ham_turns.specs.Refusals.{issue_refusal}
-use Rattle.ham_runs.specs.Runs.{Note, Decision, log_of, decision_of, decisions, on_link, call_of_lane, arrived, requests_of, rulings_of, verdict_of, words_of, MayTake}
+use Rattle.ham_runs.specs.Runs.{Note, Decision, log_of, decision_of, decisions, on_link, calls_of_lane, arrived, requests_of, rulings_of, verdict_of, words_of, MayTake}
 use Rattle.ham_plan.proofs.Lists.{in_front, true_or_false}
 use Rattle.ham_runs.proofs.Decisions.{numbered_in, numbered_push}
 use Rattle.ham_runs.proofs.Kept.{Kept, IsMade}
@@ -31,7 +31,7 @@ abbrev pub IsSo : Setting → List Note → ℕ → ℕ → Frame → Type 0
 IsSo y notes from to (Hello version digest sender of) = ⊥
 IsSo y notes from to Bye = ⊥
 IsSo y notes from to (frames.Call c) = (d : Decision) × In d (decisions notes) × (d.call ≡ c) × (d.by ≡ from)
-IsSo y notes from to (Ack lane n) = (lane < y.lanes) × (y.decider lane ≡ to) × (n ≤ length (call_of_lane lane (decisions notes)))
+IsSo y notes from to (Ack lane n) = (lane < y.lanes) × (y.decider lane ≡ to) × (n ≤ length (calls_of_lane lane (decisions notes)))
 IsSo y notes from to (Request g n a) = (y.decider g ≡ to) × (numbered (requests_of notes from g) n ≡ Some a)
 IsSo y notes from to (Verdict g n v) =
     (y.decider g ≡ from) × (d : Ruled) × (numbered (rulings_of notes from to g) n ≡ Some d) × (d.ruling ≡ v)
@@ -131,7 +131,7 @@ module _ (x : Rules) (y : Setting) (setting : IsSetting x y) (earlier : List Not
       IsMade x y (decisions earlier) (log_of earlier) (record { call = new_call y (words_of x y earlier r) lane a; by = r; before = log_of earlier r })
   new_made lane a decides in_it fits allowed = record {
     before = refl;
-    number = ap (λ b. length (cond b (call_of_lane lane (decisions earlier)) []) + 1) (eq-eqb (y.decider lane) r decides);
+    number = ap (λ b. length (cond b (calls_of_lane lane (decisions earlier)) []) + 1) (eq-eqb (y.decider lane) r decides);
     replica = here;
     decides = decides;
     lane = in_it;

@@ -18,7 +18,7 @@ use Rattle.ham_turns.specs.Words.{numbered, place_of, same_place}
 use Rattle.ham_turns.specs.Work.{at_place, first_of_two}
 use Rattle.ham_runs.proofs.Decisions.{same_place_refl, same_place_true}
 use Rattle.ham_turns.specs.Sends.{decided_by, open_requests}
-use Rattle.ham_runs.specs.Runs.{addressed, Decision, call_of_lane}
+use Rattle.ham_runs.specs.Runs.{addressed, Decision, calls_of_lane}
 
 pub some_inj : {X : Type 0} (it z : X) → Some it ≡ Some z → it ≡ z
 some_inj it z h = cc
@@ -100,7 +100,7 @@ in_open g verdict before (a ∷ rest) f h =
     ]
 
 -- lists that grow
-pub lane_more : (lane : ℕ) (xs ys : List Decision) → length (call_of_lane lane xs) ≤ length (call_of_lane lane (xs ++ ys))
+pub lane_more : (lane : ℕ) (xs ys : List Decision) → length (calls_of_lane lane xs) ≤ length (calls_of_lane lane (xs ++ ys))
 lane_more lane [] ys = omega arith
 lane_more lane (it ∷ xs) ys = let k = lane_more lane xs ys in elim (true_or_false (eqb it.call.lane lane)) [ inl t ↦ rw t (omega arith) | inr f ↦ rw f k ]
 

@@ -16,7 +16,7 @@ use Rattle.ham_turns.specs.Words.{ReplicaWords, Intake, place_of}
 use Rattle.ham_turns.specs.Work.{call_in, place_made, decided_after, logged_one, logged_made, taken, own_work}
 use Rattle.ham_turns.specs.Ready.{IsReadyHere, LogsReady, DrainsHere}
 use Rattle.ham_turns.specs.Ready.LogsReady.{Stop, Log}
-use Rattle.ham_runs.specs.Runs.{Note, Decision, no_act, of_place, decision_of, decided_here, call_of_lane, execution, decided_execution, in_slot, log_of, decisions, arrived, pushed, places, words_of, MayTake, IsNext, IsRun}
+use Rattle.ham_runs.specs.Runs.{Note, Decision, no_act, of_place, decision_of, decided_here, calls_of_lane, execution, decided_execution, in_slot, log_of, decisions, arrived, pushed, places, words_of, MayTake, IsNext, IsRun}
 use Rattle.ham_runs.specs.Next.{note_by}
 use Rattle.ham_runs.specs.Claims.{GoesOn, TurnsRefine}
 use Rattle.ham_plan.proofs.Lists.{true_or_false}
@@ -77,10 +77,10 @@ module _ (x : Rules) (y : Setting) (setting : IsSetting x y) (sound : IsSound (m
       (λ z k. ap (λ (a : Act). y.slot a.method (y.decider z.lane) == s) (act_same earlier n z (h z k)))
 
   -- the calls of a lane, where another replica decides it
-  decided_elsewhere : (q l : ℕ) → q ≢ n.at → decided_here y q l (call_of_lane l (decisions (n ∷ earlier))) ≡ decided_here y q l (call_of_lane l (decisions earlier))
+  decided_elsewhere : (q l : ℕ) → q ≢ n.at → decided_here y q l (calls_of_lane l (decisions (n ∷ earlier))) ≡ decided_here y q l (calls_of_lane l (decisions earlier))
   decided_elsewhere q l ne = by_made n.made refl
     where
-      by_made : (m : Option Call) → n.made ≡ m → decided_here y q l (call_of_lane l (decisions (n ∷ earlier))) ≡ decided_here y q l (call_of_lane l (decisions earlier))
+      by_made : (m : Option Call) → n.made ≡ m → decided_here y q l (calls_of_lane l (decisions (n ∷ earlier))) ≡ decided_here y q l (calls_of_lane l (decisions earlier))
       by_made None e = rw e (rw (append-nil (decisions earlier)) refl)
       by_made (Some c) e =
           let made = made_so x y setting sound laws earlier n kept begun c e in
@@ -89,20 +89,20 @@ module _ (x : Rules) (y : Setting) (setting : IsSetting x y) (sound : IsSound (m
             | inl t ↦
                 let other : y.decider l ≢ q = λ k. ne (sym k ∙ ap y.decider (sym (eqb-true c.lane l t)) ∙ made.decides) in
                 rw (ne_eqb (y.decider l) q other) refl
-            | inr f ↦ rw (f, append-nil (call_of_lane l (decisions earlier))) refl
+            | inr f ↦ rw (f, append-nil (calls_of_lane l (decisions earlier))) refl
           ])
 
-  decided_now : (l : ℕ) → decided_after l (decided_here y n.at l (call_of_lane l (decisions earlier))) n.made ≡ decided_here y n.at l (call_of_lane l (decisions (n ∷ earlier)))
+  decided_now : (l : ℕ) → decided_after l (decided_here y n.at l (calls_of_lane l (decisions earlier))) n.made ≡ decided_here y n.at l (calls_of_lane l (decisions (n ∷ earlier)))
   decided_now l = by_made n.made refl
     where
-      by_made : (m : Option Call) → n.made ≡ m → decided_after l (decided_here y n.at l (call_of_lane l (decisions earlier))) n.made ≡ decided_here y n.at l (call_of_lane l (decisions (n ∷ earlier)))
+      by_made : (m : Option Call) → n.made ≡ m → decided_after l (decided_here y n.at l (calls_of_lane l (decisions earlier))) n.made ≡ decided_here y n.at l (calls_of_lane l (decisions (n ∷ earlier)))
       by_made None e = rw e (rw (append-nil (decisions earlier)) refl)
       by_made (Some c) e =
           let made = made_so x y setting sound laws earlier n kept begun c e in
           rw (e, lane_push l (decisions earlier) (record { call = c; by = n.at; before = log_of earlier n.at }))
           (elim (true_or_false (eqb c.lane l)) [
             | inl t ↦ rw (t, eq-eqb (y.decider l) n.at (ap y.decider (sym (eqb-true c.lane l t)) ∙ made.decides)) refl
-            | inr f ↦ rw (f, append-nil (call_of_lane l (decisions earlier))) refl
+            | inr f ↦ rw (f, append-nil (calls_of_lane l (decisions earlier))) refl
           ])
 
   pub others_same : (q : ℕ) → q ≢ n.at → words_of x y earlier q ≡ words_of x y (n ∷ earlier) q

@@ -16,7 +16,7 @@ use Rattle.ham_turns.specs.Refusals.{issue_refusal}
 use Rattle.ham_plan.proofs.Lists.{true_or_false, in_front, in_back}
 use Rattle.ham_plan.specs.Lists.{In}
 use Rattle.ham_runs.specs.Facts.{IsGiven}
-use Rattle.ham_runs.specs.Runs.{Note, Decision, log_of, decision_of, decisions, call_of_lane, words_of, MayTake, IsNext, IsRun}
+use Rattle.ham_runs.specs.Runs.{Note, Decision, log_of, decision_of, decisions, calls_of_lane, words_of, MayTake, IsNext, IsRun}
 use Rattle.ham_runs.specs.Claims.{LanesHaveRoom}
 use Rattle.ham_runs.proofs.Decisions.{lane_push}
 use Rattle.ham_runs.proofs.Listed.{some_inj, none_some}
@@ -33,8 +33,8 @@ made_room true false new number u c h = absurd (none_some c h)
 made_room false room new number u c h = absurd (none_some c h)
 
 module _ (x : Rules) (y : Setting) (earlier : List Note) (r : ℕ) where
-  decided_length : (lane : ℕ) → y.decider lane ≡ r → length ((words_of x y earlier r).decided lane) ≡ length (call_of_lane lane (decisions earlier))
-  decided_length lane q = ap (λ b. length (cond b (call_of_lane lane (decisions earlier)) [])) (eq-eqb (y.decider lane) r q)
+  decided_length : (lane : ℕ) → y.decider lane ≡ r → length ((words_of x y earlier r).decided lane) ≡ length (calls_of_lane lane (decisions earlier))
+  decided_length lane q = ap (λ b. length (cond b (calls_of_lane lane (decisions earlier)) [])) (eq-eqb (y.decider lane) r q)
 
   issue_room : (a : Act) → issue_refusal x y (words_of x y earlier r) r a ≡ None → eqb (y.decider (lane_here y r a)) r ≡ true →
       length ((words_of x y earlier r).decided (lane_here y r a)) < x.lane_limit
@@ -53,7 +53,7 @@ module _ (x : Rules) (y : Setting) (earlier : List Note) (r : ℕ) where
 
   -- a call that a turn decides finds room in its lane
   made_finds_room : (took : Intake) (c : Call) → MayTake x y earlier r took → made_of x y (words_of x y earlier r) r took ≡ Some c →
-      y.decider c.lane ≡ r → length (call_of_lane c.lane (decisions earlier)) < x.lane_limit
+      y.decider c.lane ≡ r → length (calls_of_lane c.lane (decisions earlier)) < x.lane_limit
   made_finds_room (ActComes a) c may h own =
       let w = words_of x y earlier r in
       let l = lane_here y r a in
@@ -73,18 +73,18 @@ module _ (x : Rules) (y : Setting) (earlier : List Note) (r : ℕ) where
   made_finds_room (PartComes from k f) c may h own = absurd (none_some c h)
   made_finds_room Beat c may h own = absurd (none_some c h)
 
-one_more : (room lane : ℕ) (ds : List Decision) (d : Decision) → length (call_of_lane lane ds) ≤ room →
-    (d.call.lane ≡ lane → length (call_of_lane lane ds) < room) → length (call_of_lane lane (ds ++ d ∷ [])) ≤ room
+one_more : (room lane : ℕ) (ds : List Decision) (d : Decision) → length (calls_of_lane lane ds) ≤ room →
+    (d.call.lane ≡ lane → length (calls_of_lane lane ds) < room) → length (calls_of_lane lane (ds ++ d ∷ [])) ≤ room
 one_more room lane ds d h more = elim (true_or_false (in_lane lane (place_of d.call))) [
   | inl t ↦
-      let q : call_of_lane lane (ds ++ d ∷ []) ≡ call_of_lane lane ds ++ d.call ∷ [] =
-      lane_push lane ds d ∙ ap (λ b. call_of_lane lane ds ++ cond b (d.call ∷ []) []) t in
+      let q : calls_of_lane lane (ds ++ d ∷ []) ≡ calls_of_lane lane ds ++ d.call ∷ [] =
+      lane_push lane ds d ∙ ap (λ b. calls_of_lane lane ds ++ cond b (d.call ∷ []) []) t in
       let less = more (eqb-true d.call.lane lane t) in
-      let n = ap (λ (l : List Call). length l) q ∙ length-append (call_of_lane lane ds) (d.call ∷ []) in
+      let n = ap (λ (l : List Call). length l) q ∙ length-append (calls_of_lane lane ds) (d.call ∷ []) in
       omega arith
   | inr f ↦
-      let q : call_of_lane lane (ds ++ d ∷ []) ≡ call_of_lane lane ds =
-      lane_push lane ds d ∙ ap (λ b. call_of_lane lane ds ++ cond b (d.call ∷ []) []) f ∙ append-nil (call_of_lane lane ds) in
+      let q : calls_of_lane lane (ds ++ d ∷ []) ≡ calls_of_lane lane ds =
+      lane_push lane ds d ∙ ap (λ b. calls_of_lane lane ds ++ cond b (d.call ∷ []) []) f ∙ append-nil (calls_of_lane lane ds) in
       subst (λ (l : List Call). length l ≤ room) (sym q) h
 ]
 
@@ -92,21 +92,21 @@ abbrev pub AreOwn : Setting → List Decision → Type 0
 AreOwn y ds = (d : Decision) → In d ds → y.decider d.call.lane ≡ d.by
 
 noted : (x : Rules) (y : Setting) (earlier : List Note) (n : Note) → IsNext x y earlier n →
-    (AreOwn y (decisions earlier) → (lane : ℕ) → length (call_of_lane lane (decisions earlier)) ≤ x.lane_limit) →
+    (AreOwn y (decisions earlier) → (lane : ℕ) → length (calls_of_lane lane (decisions earlier)) ≤ x.lane_limit) →
     (made : Option Call) → made ≡ made_of x y (words_of x y earlier n.at) n.at n.took →
     AreOwn y (decisions earlier ++ decision_of n.at (log_of earlier n.at) made) → (lane : ℕ) →
-    length (call_of_lane lane (decisions earlier ++ decision_of n.at (log_of earlier n.at) made)) ≤ x.lane_limit
-noted x y earlier n next before None q mine lane = subst (λ l. length (call_of_lane lane l) ≤ x.lane_limit) (sym (append-nil (decisions earlier)))
+    length (calls_of_lane lane (decisions earlier ++ decision_of n.at (log_of earlier n.at) made)) ≤ x.lane_limit
+noted x y earlier n next before None q mine lane = subst (λ l. length (calls_of_lane lane l) ≤ x.lane_limit) (sym (append-nil (decisions earlier)))
     (before (λ d k. mine d (in_front d (decisions earlier) [] k)) lane)
 noted x y earlier n next before (Some c) q mine lane =
     let d : Decision = record { call = c; by = n.at; before = log_of earlier n.at } in
     one_more x.lane_limit lane (decisions earlier) d (before (λ z k. mine z (in_front z (decisions earlier) (d ∷ []) k)) lane)
-    (λ at. subst (λ k. length (call_of_lane k (decisions earlier)) < x.lane_limit) at
+    (λ at. subst (λ k. length (calls_of_lane k (decisions earlier)) < x.lane_limit) at
     (made_finds_room x y earlier n.at n.took c next.may (sym q) (mine d (in_back d (decisions earlier) (d ∷ []) (inl refl)))))
 
 -- each lane has at most its room of calls, where each call is decided by the lane's decider
 within_room : (x : Rules) (y : Setting) (notes : List Note) → IsRun x y notes →
-    AreOwn y (decisions notes) → (lane : ℕ) → length (call_of_lane lane (decisions notes)) ≤ x.lane_limit
+    AreOwn y (decisions notes) → (lane : ℕ) → length (calls_of_lane lane (decisions notes)) ≤ x.lane_limit
 within_room x y [] run own lane = omega arith
 within_room x y (n ∷ earlier) run own lane =
     noted x y earlier n run.0 (λ mine k. within_room x y earlier run.1 mine k) n.made run.0.made own lane

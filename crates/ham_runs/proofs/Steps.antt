@@ -26,7 +26,7 @@ use Rattle.ham_turns.specs.Words.{ReplicaWords, Intake, ActComes, FrameComes, Pa
 use Rattle.ham_turns.specs.Work.{lane_here, new_call, ruling_of, issued_by, answer_of, ruled_to, ruled_of, place_made, asked_by, request_in, ruled_as, ruling_in, verdict_in, first_of_two}
 use Rattle.ham_turns.specs.Sends.{peers, decided_by, to_peers, back, due_calls, due_requests, due_to, sent_back, sent_issued, sent_by}
 use Rattle.ham_turns.specs.Sends.{kept_ruling as ruling_kept}
-use Rattle.ham_runs.specs.Runs.{Note, Decision, log_of, decision_of, decisions, execution, pushed, addressed, on_link, call_of_lane, arrived, requests_of, rulings_of, verdict_of, decided_here, words_of, MayTake, places, IsNext, IsRun}
+use Rattle.ham_runs.specs.Runs.{Note, Decision, log_of, decision_of, decisions, execution, pushed, addressed, on_link, calls_of_lane, arrived, requests_of, rulings_of, verdict_of, decided_here, words_of, MayTake, places, IsNext, IsRun}
 use Rattle.ham_plan.proofs.Lists.{in_back, in_parts, true_or_false}
 use Rattle.ham_laws.proofs.Bridge.{calls_after}
 use Rattle.ham_laws.proofs.Counts.{count_within, distinct}
@@ -135,17 +135,17 @@ module _ (x : Rules) (y : Setting) (setting : IsSetting x y) (sound : IsSound (m
   ]
 
   -- a call of a lane that is decided here was decided here
-  call_due : (lane : ℕ) (c : Call) (to : ℕ) → y.decider lane ≡ n.at → In c (call_of_lane lane (decisions earlier)) → IsSo y earlier n.at to (frames.Call c)
+  call_due : (lane : ℕ) (c : Call) (to : ℕ) → y.decider lane ≡ n.at → In c (calls_of_lane lane (decisions earlier)) → IsSo y earlier n.at to (frames.Call c)
   call_due lane c to leads k =
       let d = lane_in lane (decisions earlier) c k in
       let own = kept.kept.own d.0 d.1 in
       (d.0, d.1, sym d.2, sym own.decides ∙ ap y.decider (ap (λ (z : Call). z.lane) (sym d.2) ∙ d.3) ∙ leads)
 
   -- what is due of such a lane
-  lane_due : (lane from : ℕ) (c : Call) → y.decider lane ≡ n.at → In c (take 16 (drop from (decided_here y n.at lane (call_of_lane lane (decisions earlier))))) → In c (call_of_lane lane (decisions earlier))
+  lane_due : (lane from : ℕ) (c : Call) → y.decider lane ≡ n.at → In c (take 16 (drop from (decided_here y n.at lane (calls_of_lane lane (decisions earlier))))) → In c (calls_of_lane lane (decisions earlier))
   lane_due lane from c leads k =
-      subst (λ b. In c (cond b (call_of_lane lane (decisions earlier)) [])) (eq-eqb (y.decider lane) n.at leads)
-      (in_drop from (decided_here y n.at lane (call_of_lane lane (decisions earlier))) c (in_take 16 (drop from (decided_here y n.at lane (call_of_lane lane (decisions earlier)))) c k))
+      subst (λ b. In c (cond b (calls_of_lane lane (decisions earlier)) [])) (eq-eqb (y.decider lane) n.at leads)
+      (in_drop from (decided_here y n.at lane (calls_of_lane lane (decisions earlier))) c (in_take 16 (drop from (decided_here y n.at lane (calls_of_lane lane (decisions earlier)))) c k))
 
   -- a frame that a tick sends was so before
   tick_sent : (to : ℕ) (f : Frame) → In f (due_to y (words_of x y earlier n.at) n.at to) → IsSo y earlier n.at to f

@@ -17,7 +17,7 @@ use Rattle.ham_turns.specs.Work.{own_work}
 use Rattle.ham_turns.specs.Ready.{IsReadyHere, IsSettled, DrainsHere}
 use Rattle.ham_turns.specs.Refusals.{deliver_refusal}
 use Rattle.ham_runs.specs.Facts.{constraints}
-use Rattle.ham_runs.specs.Runs.{Note, decisions, log_of, call_of_lane, arrived, places, on_link, execution, in_slot, words_of, MayTake, IsRun}
+use Rattle.ham_runs.specs.Runs.{Note, decisions, log_of, calls_of_lane, arrived, places, on_link, execution, in_slot, words_of, MayTake, IsRun}
 use Rattle.ham_runs.specs.Next.{note_by, Input, inputs, next_note, run_of}
 use Rattle.ham_runs.specs.Headline.{IsFaithful}
 
@@ -46,7 +46,7 @@ FramesAreTaken x y =
 
 -- no lane has more calls than a lane takes
 abbrev pub LanesHaveRoom : Rules → Setting → Type 0
-LanesHaveRoom x y = (notes : List Note) → IsRun x y notes → (lane : ℕ) → length (call_of_lane lane (decisions notes)) ≤ x.lane_limit
+LanesHaveRoom x y = (notes : List Note) → IsRun x y notes → (lane : ℕ) → length (calls_of_lane lane (decisions notes)) ≤ x.lane_limit
 
 -- ---- inputs
 

@@ -30,10 +30,12 @@ use Rattle.ham_turns.specs.Words.{Intake, ActComes, FrameComes, PartComes, Beat,
 use Rattle.ham_turns.specs.Work.{lane_here, ruling_by, place_made}
 use Rattle.ham_runs.specs.Runs.{Note, execution, decided_execution, log_of, arrived, places, on_link, requests_of, rulings_of, words_of, IsRun}
 
+-- at first, and after each note
 abbrev pub AtEachMoment : (List Note → Type 0) → List Note → Type 0
 AtEachMoment Holds [] = Holds []
 AtEachMoment Holds (n ∷ earlier) = Holds (n ∷ earlier) × AtEachMoment Holds earlier
 
+-- of the notes before each turn, and its note
 abbrev pub OfEachTurn : (List Note → Note → Type 0) → List Note → Type 0
 OfEachTurn Holds [] = ⊤
 OfEachTurn Holds (n ∷ earlier) = Holds earlier n × OfEachTurn Holds earlier
@@ -49,7 +51,7 @@ pub record IsSafe (x : Rules) (y : Setting) (notes : List Note) : Type 0 where
   pub applied : (r : ℕ) (c : Call) → In c (arrived notes r) →
       In (place_of c) (log_of notes r) ↔ ((d : Place) → Needs (meaning_by x) (constraints y) (execution notes) (place_of c) d → In d (log_of notes r))
 
--- a turn logs exactly its reach
+-- a turn logs exactly its reach: the log, its own call, and of what came here what has all its needs there
 abbrev pub LogsItsReach : Rules → Setting → List Note → Note → Type 0
 LogsItsReach x y earlier n = (c : Place) →
     In c (log_of earlier n.at ++ n.logged) ↔
@@ -88,7 +90,7 @@ pub record DecidesExactly (x : Rules) (y : Setting) (earlier : List Note) (n : N
   pub only_next : (v : Ruling) → n.ruled ≡ Some v → IsNextRequest earlier n
   pub asked : (q : IsNextRequest earlier n) → IsAsked y earlier n q
 
--- no delivery is refused
+-- the frame that a turn takes in isn't refused
 abbrev pub IsAccepted : Rules → Setting → List Note → Note → Type 0
 IsAccepted x y earlier n = (from k : ℕ) (f : Frame) → n.took ≡ FrameComes from k f → deliver_refusal x y (words_of x y earlier n.at) n.at from f ≡ None
 

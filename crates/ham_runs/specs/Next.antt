@@ -32,6 +32,7 @@ pub data Input : Type 0 where
   Tear : (to from which : ℕ) → Input
   Tick : ℕ → Input
 
+-- the replica that is asked
 abbrev pub at_of : Input → ℕ
 at_of (Issue r a) = r
 at_of (Deliver to from k) = to
@@ -43,6 +44,7 @@ abbrev pub found : (Frame → Intake) → Option Frame → Option Intake
 found make None = None
 found make (Some f) = Some (make f)
 
+-- what the replica takes in then
 abbrev pub intake_of : List Note → Input → Option Intake
 intake_of notes (Issue r a) = Some (ActComes a)
 intake_of notes (Deliver to from k) = found (FrameComes from k) (numbered (on_link notes from to) k)

@@ -42,6 +42,7 @@ pub record Decision : Type 0 where
   pub by : ℕ
   pub before : List Place
 
+-- the calls that a replica logged, in order
 abbrev pub log_of : List Note → ℕ → List Place
 log_of [] r = []
 log_of (n ∷ earlier) r = if n.at == r then log_of earlier r ++ n.logged else log_of earlier r
@@ -61,9 +62,11 @@ abbrev pub of_place : {B : Type 0} → B → (Decision → B) → List Decision 
 of_place none say [] c = none
 of_place none say (d ∷ rest) c = if same_place (place_of d.call) c then say d else of_place none say rest c
 
+-- of a call that wasn't decided
 abbrev pub no_act : Act
 no_act = record { method = 0; args = [] }
 
+-- these decisions, with these logs
 abbrev pub execution_of : List Decision → (ℕ → List Place) → Execution Place Act
 execution_of ds log = record {
   decided = map (λ d. place_of d.call) ds;
@@ -98,9 +101,9 @@ on_link [] from to = []
 on_link (n ∷ earlier) from to = if n.at == from then on_link earlier from to ++ addressed to n.sent else on_link earlier from to
 
 -- the calls that were decided in a lane, in order
-abbrev pub call_of_lane : ℕ → List Decision → List Call
-call_of_lane lane [] = []
-call_of_lane lane (d ∷ rest) = if in_lane lane (place_of d.call) then d.call ∷ call_of_lane lane rest else call_of_lane lane rest
+abbrev pub calls_of_lane : ℕ → List Decision → List Call
+calls_of_lane lane [] = []
+calls_of_lane lane (d ∷ rest) = if in_lane lane (place_of d.call) then d.call ∷ calls_of_lane lane rest else calls_of_lane lane rest
 
 -- the calls that frames brought, in order
 abbrev pub arrived : List Note → ℕ → List Call
@@ -135,12 +138,13 @@ in_slot y e s c = y.slot (e.act c).method (y.decider c.lane) == s
 abbrev pub decided_here : Setting → ℕ → ℕ → List Call → List Call
 decided_here y r lane calls = if y.decider lane == r then calls else []
 
+-- the words of replica r after these notes
 abbrev pub words_of : Rules → Setting → List Note → ℕ → ReplicaWords
 words_of x y notes r = record {
   state = end_of (meaning_by x) (execution notes) (log_of notes r);
   log = log_of notes r;
   count_of = λ s. count_by (in_slot y (execution notes) s) (log_of notes r);
-  decided = λ lane. decided_here y r lane (call_of_lane lane (decisions notes));
+  decided = λ lane. decided_here y r lane (calls_of_lane lane (decisions notes));
   kept = at_place (arrived notes r);
   requests = requests_of notes r;
   verdict = verdict_of notes r;
@@ -167,7 +171,7 @@ pub record IsNext (x : Rules) (y : Setting) (earlier : List Note) (n : Note) : T
   pub answer : n.answer ≡ answer_of x y (words_of x y earlier n.at) n.at n.took
   pub ruled : n.ruled ≡ ruled_of x (words_of x y earlier n.at) n.took
   pub made : n.made ≡ made_of x y (words_of x y earlier n.at) n.at n.took
-  -- the log, then the decided call, then call by call what may be logged of what came here
+  -- the log, then the decided call, then call by call what may be logged of what came here, the one of the least lane first
   pub logged : Drains (meaning_by x) (constraints y) (decided_execution n earlier) (places (arrived (n ∷ earlier) n.at))
       (log_of earlier n.at ++ place_made n.made) (log_of earlier n.at ++ n.logged)
   pub sent : n.sent ≡ sent_by y (words_of x y earlier n.at) n.at n.took n.answer n.ruled n.made (log_of earlier n.at ++ n.logged)
