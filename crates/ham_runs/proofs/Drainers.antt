@@ -10,11 +10,16 @@ use Rattle.ham_turns.specs.Words.{ReplicaWords, place_of, in_lane}
 use Rattle.ham_turns.specs.Work.{at_place, logged_one}
 use Rattle.ham_turns.specs.Ready.{IsWithin, IsReadyHere, DrainsHere}
 use Rattle.ham_turns.specs.Ready.LogsReady.{Stop, Log}
-use Rattle.ham_runs.specs.Next.{within_test, ready_test, lesser, least_ready, drained_by, logged_all}
+use Rattle.ham_runs.specs.Next.{within_test, ready_test, lesser, least_ready, drained_by}
 use Rattle.ham_plan.proofs.Lists.{true_or_false}
 use Rattle.ham_laws.proofs.Counts.{count_by-cons}
 use Rattle.ham_runs.proofs.Listed.{at_place_in, at_place_finds}
 use Rattle.ham_runs.proofs.Drained.{count_one}
+
+-- the words after a drain
+abbrev pub logged_all : Rules → Setting → ReplicaWords → List Call → ReplicaWords
+logged_all x y w [] = w
+logged_all x y w (c ∷ rest) = logged_all x y (logged_one x y w c) rest
 
 differ : true ≡ false → ⊥
 differ h = cc

@@ -68,6 +68,7 @@ inputs (n ∷ earlier) = inputs earlier ++ input_of n.at n.took ∷ []
 
 -- ---- the drain, computed, and the run of inputs
 
+-- tests of what is ready
 abbrev pub within_test : ReplicaWords → List ℕ → List ℕ → Bool
 within_test w [] slots = true
 within_test w (n ∷ deps) [] = true
@@ -94,11 +95,7 @@ abbrev pub drained_by : Rules → Setting → ℕ → ReplicaWords → List Call
 drained_by x y zero w calls = []
 drained_by x y (suc n) w calls = drained_from x y (λ v. drained_by x y n v calls) w (least_ready y w calls)
 
--- the words after a drain
-abbrev pub logged_all : Rules → Setting → ReplicaWords → List Call → ReplicaWords
-logged_all x y w [] = w
-logged_all x y w (c ∷ rest) = logged_all x y (logged_one x y w c) rest
-
+-- what is noted next of a replica that takes this in
 abbrev pub next_note : Rules → Setting → List Note → ℕ → Intake → Note
 next_note x y notes r took =
     note_by x y (words_of x y notes r) r took
