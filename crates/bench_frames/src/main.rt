@@ -88,24 +88,24 @@ fn decoded(alloc: Global, bytes: &[u8], piece: usize) -> anyhow::Result<u64> {
     Ok(count)
 }
 
+/// What so many rounds come to.
 fn total(
     alloc: Global,
+    frame: &Frame,
     what: &str,
-    kind: &str,
     piece: usize,
     rounds: usize,
-) -> anyhow::Result<u64> {
-    let frame = frame_of(alloc, kind)?;
-    if !fits(&frame) {
-        bail!("the frame doesn't fit");
-    }
-    let bytes = stream_of(alloc, &frame)?;
+) -> anyhow::Result<u64>
+    requires { Fits frame.now }
+{
+    let bytes = stream_of(alloc, frame)?;
     let mut total = 0u64;
     for _ in 0..rounds {
-        total = total.wrapping_add(match what {
-            "encode" => stream_of(alloc, &frame)?.items().len() as u64,
+        let more = match what {
+            "encode" => stream_of(alloc, frame)?.items().len() as u64,
             _ => decoded(alloc, bytes.items(), piece)?,
-        });
+        };
+        total = total.wrapping_add(more);
     }
     Ok(total)
 }
@@ -125,13 +125,12 @@ fn main(rt: HostRuntime) -> anyhow::Result<()> {
     ) else {
         bail!("four words are wanted");
     };
-    let total = total(
-        alloc,
-        what.as_str(),
-        kind.as_str(),
-        number(piece.as_str()),
-        number(rounds.as_str()),
-    )?;
+    let frame = frame_of(alloc, kind.as_str())?;
+    if !fits(&frame) {
+        bail!("the frame doesn't fit");
+    }
+    let piece = number(piece.as_str());
+    let total = total(alloc, &frame, what.as_str(), piece, number(rounds.as_str()))?;
     println!(rt; "{total}")?;
     Ok(())
 }

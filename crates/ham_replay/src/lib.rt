@@ -7,7 +7,6 @@ mod line;
 mod outcome;
 mod play;
 
-
 pub use end::{LineRefusal, ReplayEnd};
 pub use line::{Line, read_line};
 pub use play::replay;

@@ -1,13 +1,10 @@
 -- Derived plans are sound.
-use Rattle.std.proofs.Common.{◌≡◌, ◌⊎◌, ℕ, ◌<◌, ◌≤◌, Bool, true, false, not, ◌&&◌, ◌||◌, if◌then◌else◌, leb, ltb, eqb, List, length, inl, inr, refl, sym, ap, subst, ◌∙◌, true≢false, arith, lt-ltb}
-use Rattle.std.specs.Prelude.{slice_get, IsTrue}
-use Rattle.std.proofs.lemmas.Bool.{leb-true, leb-false, ltb-true, ltb-false, eqb-true}
-use Rattle.ham_syntax.specs.declared.act.Act.{Act}
+use Rattle.std.proofs.Common.{◌≡◌, ◌⊎◌, ℕ, ◌<◌, ◌≤◌, Bool, true, false, not, ◌&&◌, ◌||◌, leb, ltb, List, length, inl, inr, refl, sym, ap, subst, ◌∙◌, true≢false, arith, lt-ltb}
+use Rattle.std.proofs.lemmas.Bool.{leb-true, leb-false, ltb-true, ltb-false}
 use Rattle.ham_syntax.specs.Objects.{Schema}
 use Rattle.ham_syntax.specs.Checked.{IsChecked}
-use Rattle.ham_meaning.specs.Relations.{IsActOf, StateCommute, InvariantSufficient, PermissibleRight, PermissibleLeft}
+use Rattle.ham_meaning.specs.Relations.{StateCommute, InvariantSufficient, PermissibleRight, PermissibleLeft}
 use Rattle.ham_meaning.specs.OfObjects.{meaning}
-use Rattle.ham_rules.specs.declared.claim.Claim.{Claim}
 use Rattle.ham_rules.specs.declared.claim.Claim.TheVariants.{Sc, Is, Pr, Pl}
 use Rattle.ham_rules.specs.Derivations.{is_derivable}
 use Rattle.ham_rules.proofs.Derived.{computed-holds}

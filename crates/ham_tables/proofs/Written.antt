@@ -1,20 +1,18 @@
 -- Texts that are written piece by piece, one for each number below another.
-use Rattle.std.proofs.Common.{◌≡◌, ℕ, ◌+◌, Bool, true, false, if◌then◌else◌, List, [], ◌∷◌, ◌++◌, map, refl, sym, ap, ◌∙◌, append_assoc, arith}
-use Rattle.std.specs.List.{flat_map, join_with_byte, range_with_len}
+use Rattle.std.proofs.Common.{◌≡◌, ℕ, ◌+◌, Bool, true, false, if◌then◌else◌, List, [], ◌∷◌, ◌++◌, map, sym, ap, ◌∙◌, append_assoc, arith}
+use Rattle.std.specs.List.{flat_map, range_with_len}
 use Rattle.std.proofs.lemmas.List.{append-nil}
+use Rattle.std.proofs.lemmas.List.Concat.{flat_map-append}
 use Rattle.std.proofs.lemmas.List.FromFn.{map-range_with_len_more}
-use Rattle.ham_rules.specs.Claims.{each_below, lists_below}
-use Rattle.ham_text.specs.Written.{line_text}
+use Rattle.ham_rules.specs.Claims.{lists_below}
+use Rattle.ham_text.specs.Written.{joined, line_text}
+use Rattle.ham_text.proofs.Wording.{joined_more}
 use Rattle.std.specs.Prelude.{codes}
 use Rattle.std.specs.Fmt.{decimal}
 use Rattle.ham_syntax.specs.Objects.{Schema}
 use Rattle.ham_plan.specs.Plans.{Plan}
 use Rattle.ham_tables.specs.TablesText.{conflict_lines, depend_lines, group_lines, group_lanes, free_lanes, tables_text}
 use Rattle.ham_plan.proofs.Ranges.{range_more}
-
-pub flat_map-append : {A B : Type 0} (g : A → List B) (xs ys : List A) → flat_map g (xs ++ ys) ≡ flat_map g xs ++ flat_map g ys
-flat_map-append {A} {B} g [] ys = refl
-flat_map-append {A} {B} g (x ∷ xs) ys = ap (λ (rest : List B). g x ++ rest) (flat_map-append g xs ys) ∙ sym (append_assoc (g x) (flat_map g xs) (flat_map g ys))
 
 flat_map-one : {A B : Type 0} (g : A → List B) (x : A) → flat_map g (x ∷ []) ≡ g x
 flat_map-one g x = append-nil (g x)
@@ -62,22 +60,15 @@ each-more g f a n k old now new same is e =
     ∙ (flat_map-append g (map f (range_with_len a n)) (f k ∷ []) ∙ ap (λ (last : List ℕ). flat_map g (map f (range_with_len a n)) ++ last) (flat_map-one g (f k)))))))
 
 -- ---- words joined by a byte
-join-more : (c : ℕ) (x : List ℕ) (names : List (List ℕ)) → join_with_byte c (x ∷ names) ≡ x ++ flat_map (λ (name : List ℕ). c ∷ name) names
-join-more c x [] = sym (append-nil x)
-join-more c x (y ∷ names) = ap (λ (rest : List ℕ). x ++ c ∷ rest) (join-more c y names)
-
-pub join-append : (c : ℕ) (x : List ℕ) (xs names : List (List ℕ)) → join_with_byte c ((x ∷ xs) ++ names) ≡ join_with_byte c (x ∷ xs) ++ flat_map (λ (name : List ℕ). c ∷ name) names
-join-append c x [] names = join-more c x names
-join-append c x (y ∷ xs) names =
-    ap (λ (rest : List ℕ). x ++ c ∷ rest) (join-append c y xs names)
-    ∙ sym (append_assoc x (c ∷ join_with_byte c (y ∷ xs)) (flat_map (λ (name : List ℕ). c ∷ name) names))
+pub two_numbers : (text first one second other : List ℕ) → (((text ++ first) ++ 32 ∷ one) ++ 32 ∷ second) ++ 32 ∷ other ≡ text ++ joined (first ∷ one ∷ second ∷ other ∷ [])
+two_numbers text first one second other = simp append_assoc
 
 -- a line of some words and then of names
-pub line-of_names : (x : List ℕ) (xs names : List (List ℕ)) (old front now new : List ℕ) → front ≡ old ++ join_with_byte 32 (x ∷ xs) → now ≡ front ++ flat_map (λ (name : List ℕ). 32 ∷ name) names → new ≡ now ++ 10 ∷ [] → new ≡ old ++ line_text ((x ∷ xs) ++ names)
+pub line-of_names : (x : List ℕ) (xs names : List (List ℕ)) (old front now new : List ℕ) → front ≡ old ++ joined (x ∷ xs) → now ≡ front ++ flat_map (λ (name : List ℕ). 32 ∷ name) names → new ≡ now ++ 10 ∷ [] → new ≡ old ++ line_text ((x ∷ xs) ++ names)
 line-of_names x xs names old front now new e f g =
     let names_text = flat_map (λ (name : List ℕ). 32 ∷ name) names in
-    g ∙ (ap (λ (t : List ℕ). t ++ 10 ∷ []) (f ∙ (ap (λ (t : List ℕ). t ++ names_text) e ∙ (append_assoc old (join_with_byte 32 (x ∷ xs)) names_text ∙ ap (λ (t : List ℕ). old ++ t) (sym (join-append 32 x xs names)))))
-    ∙ append_assoc old (join_with_byte 32 ((x ∷ xs) ++ names)) (10 ∷ []))
+    g ∙ (ap (λ (t : List ℕ). t ++ 10 ∷ []) (f ∙ (ap (λ (t : List ℕ). t ++ names_text) e ∙ (append_assoc old (joined (x ∷ xs)) names_text ∙ ap (λ (t : List ℕ). old ++ t) (joined_more x xs names))))
+    ∙ append_assoc old (joined ((x ∷ xs) ++ names)) (10 ∷ []))
 
 -- ---- lines after lines
 abbrev pub Wrote : List (List (List ℕ)) → List ℕ → List ℕ → Type 0

@@ -1,15 +1,18 @@
 //! The tables of a plan.
 
-ghost use Rattle.std.specs.Prelude.{◌≡◌, ◌<◌, ◌≤◌, ◌∷◌, ◌++◌, [], length, map, codes, IfOk, OnOk};
-ghost use Rattle.std.specs.List.{flat_map, join_with_byte, range_with_len};
-ghost use Rattle.std.specs.Fmt.{decimal};
+ghost use Rattle.std.specs.Prelude.{◌≡◌, ◌<◌, ◌∷◌, ◌++◌, length, map, IfOk, OnOk};
+ghost use Rattle.std.specs.List.{flat_map, range_with_len};
 ghost use Rattle.ham_text.specs.Written.{line_text};
 ghost use Rattle.ham_plan.specs.Plans as plans;
 ghost use Rattle.ham_tables.specs.TablesText as tables_text;
 
-use crate::lines::{push_count, push_group_lane, push_name, push_own_lane, push_pair};
+use crate::lines::{
+    push_count, push_group_lane, push_name, push_numbers_of, push_own_lane, push_pair,
+};
+use ham_lists::{Bytes, Items, NoMemory};
 use ham_plan::Plan;
-use ham_syntax::{Bytes, Items, NoMemory, Object};
+use ham_syntax::Object;
+use ham_text::push_line_end;
 use std::alloc::Global;
 
 /// The line of a conflict, where there is one and m is not after n.
@@ -122,103 +125,68 @@ fn push_names_in(text: &mut Bytes, object: &Object, plan: &Plan, group: u8) -> R
     Ok(())
 }
 
-/// The line of a group up to its leader.
-fn push_leader(alloc: Global, text: &mut Bytes, group: u8, leader: u8) -> Result<(), NoMemory>
-    ensures { OnOk result (text.new ≡ text.old ++ join_with_byte 32 (codes "group" ∷ decimal group ∷ codes "leader" ∷ decimal leader ∷ [])) }
-{
-    text.extend(format!(in alloc; "group {group} leader {leader}")?.as_bytes())
-}
-
 /// The line of a group.
-fn push_group(
-    alloc: Global,
-    text: &mut Bytes,
-    object: &Object,
-    plan: &Plan,
-    group: u8,
-) -> Result<(), NoMemory>
+fn push_group(text: &mut Bytes, object: &Object, plan: &Plan, group: u8) -> Result<(), NoMemory>
     requires methods { plan.now.methods ≡ length object.now.methods }
     ensures { OnOk result (text.new ≡ text.old ++ line_text (tables_text.group_line object.now plan.now group)) }
 {
-    push_leader(alloc, text, group, plan.leader_of(group))?;
+    push_numbers_of(text, b"group", group, b"leader", plan.leader_of(group))?;
     push_names_in(text, object, plan, group)?;
-    text.push(b'\n')?;
+    push_line_end(text)?;
     Ok(())
 }
 
-fn push_groups(
-    alloc: Global,
-    text: &mut Bytes,
-    object: &Object,
-    plan: &Plan,
-) -> Result<(), NoMemory>
+fn push_groups(text: &mut Bytes, object: &Object, plan: &Plan) -> Result<(), NoMemory>
     requires methods { plan.now.methods ≡ length object.now.methods }
     ensures { OnOk result (text.new ≡ text.old ++ flat_map line_text (tables_text.group_lines object.now plan.now)) }
 {
     for group in 0..plan.groups() {
-        push_group(alloc, text, object, plan, group)?;
+        push_group(text, object, plan, group)?;
     }
     Ok(())
 }
 
-fn push_group_lanes(alloc: Global, text: &mut Bytes, plan: &Plan) -> Result<(), NoMemory>
+fn push_group_lanes(text: &mut Bytes, plan: &Plan) -> Result<(), NoMemory>
     ensures { OnOk result (text.new ≡ text.old ++ flat_map line_text (tables_text.group_lanes plan.now)) }
 {
     for group in 0..plan.groups() {
-        push_group_lane(alloc, text, group)?;
+        push_group_lane(text, group)?;
     }
     Ok(())
 }
 
 /// The lanes of a free method: one for each replica.
-fn push_each_lane(
-    alloc: Global,
-    text: &mut Bytes,
-    object: &Object,
-    plan: &Plan,
-    m: u8,
-) -> Result<(), NoMemory>
+fn push_each_lane(text: &mut Bytes, object: &Object, plan: &Plan, m: u8) -> Result<(), NoMemory>
     requires methods { plan.now.methods ≡ length object.now.methods }
     requires exists { m < plan.now.methods }
     ensures { OnOk result (text.new ≡ text.old ++ flat_map line_text (map (tables_text.own_lane object.now plan.now m) (range_with_len 1 plan.now.replicas))) }
 {
     for before in 0..plan.replicas() {
         let replica = before + 1;
-        push_own_lane(alloc, text, object, plan.lane_of(m, replica), m, replica)?;
+        push_own_lane(text, object, plan.lane_of(m, replica), m, replica)?;
     }
     Ok(())
 }
 
 /// The lanes of method m, where it is free.
-fn push_own_lanes(
-    alloc: Global,
-    text: &mut Bytes,
-    object: &Object,
-    plan: &Plan,
-    m: u8,
-) -> Result<(), NoMemory>
+fn push_own_lanes(text: &mut Bytes, object: &Object, plan: &Plan, m: u8) -> Result<(), NoMemory>
     requires methods { plan.now.methods ≡ length object.now.methods }
     requires exists { m < plan.now.methods }
     ensures { OnOk result (text.new ≡ text.old ++ flat_map line_text (tables_text.own_lanes object.now plan.now m)) }
 {
     if plan.is_free(m) {
-        push_each_lane(alloc, text, object, plan, m)
+        push_each_lane(text, object, plan, m)
     } else {
         Ok(())
     }
 }
 
-fn push_free_lanes(
-    alloc: Global,
-    text: &mut Bytes,
-    object: &Object,
-    plan: &Plan,
-) -> Result<(), NoMemory>
+fn push_free_lanes(text: &mut Bytes, object: &Object, plan: &Plan) -> Result<(), NoMemory>
     requires methods { plan.now.methods ≡ length object.now.methods }
     ensures { OnOk result (text.new ≡ text.old ++ flat_map line_text (tables_text.free_lanes object.now plan.now)) }
 {
     for m in 0..plan.methods() {
-        push_own_lanes(alloc, text, object, plan, m)?;
+        push_own_lanes(text, object, plan, m)?;
     }
     Ok(())
 }
@@ -229,13 +197,13 @@ pub fn print_tables(alloc: Global, object: &Object, plan: &Plan) -> Result<Bytes
     ensures { IfOk result (λ text. text ≡ tables_text.tables_text object.now plan.now) }
 {
     let mut text = Items::new(alloc);
-    push_count(alloc, &mut text, b"methods", u16::from(plan.methods()))?;
-    push_count(alloc, &mut text, b"replicas", u16::from(plan.replicas()))?;
+    push_count(&mut text, b"methods", plan.methods())?;
+    push_count(&mut text, b"replicas", plan.replicas())?;
     push_conflicts(&mut text, object, plan)?;
     push_dependencies(&mut text, object, plan)?;
-    push_groups(alloc, &mut text, object, plan)?;
-    push_group_lanes(alloc, &mut text, plan)?;
-    push_free_lanes(alloc, &mut text, object, plan)?;
+    push_groups(&mut text, object, plan)?;
+    push_group_lanes(&mut text, plan)?;
+    push_free_lanes(&mut text, object, plan)?;
     text.extend(b"end\n")?;
     Ok(text)
 }

@@ -1,4 +1,4 @@
-use Rattle.std.proofs.Common.{◌+◌, arith}
+use Rattle.std.proofs.Common.{arith}
 use Rattle.ham_text.specs.Written.{line_text}
 use Rattle.ham_tables.specs.TablesText.{group_lane}
 use Rattle.ham_tables.proofs.Written.{each-more}

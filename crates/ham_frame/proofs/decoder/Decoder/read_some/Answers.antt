@@ -1,8 +1,4 @@
-use Rattle.std.proofs.Common.{◌≡◌, sym, ap, ◌∙◌, subst}
-use Rattle.std.specs.Prelude.{Result, Ok, Err}
 use Rattle.std.proofs.lemmas.Result.{err_from_is_err_and}
-use Rattle.ham_frame.specs.declared.decoder.FrameFault.{FrameFault}
-use Rattle.ham_frame.specs.Decoding.{ReadsByte}
 use Rattle.ham_frame.proofs.Pieces.{told_same, refused_by, refuses_first}
 use Rattle.ham_frame.proofs.decoder.Decoder.read_some.Goals as goal
 
