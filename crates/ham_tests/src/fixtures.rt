@@ -1,7 +1,7 @@
 //! What the runs share: the bank, and the words of a replay.
 
 ghost use Rattle.std.specs.Prelude.{◌≡◌, [], ◌∷◌, map, Some, IfOk, codes};
-ghost use Rattle.ham_cli.specs.Runs as runs;
+ghost use Rattle.ham_cli.specs.Top as top;
 
 use ham_bytes::{MemShelf, MemSink, Words};
 use ham_cli::{Exit, run};
@@ -40,7 +40,7 @@ pub fn replay_of(
     schedule: &[u8],
     room: usize,
 ) -> Result<(Exit, MemSink), Fail>
-    ensures { IfOk result (λ r. runs.Ends (codes "replay" ∷ codes "bank" ∷ codes "plan" ∷ []) (Some (record { name = codes "bank"; bytes = object.now } ∷ record { name = codes "plan"; bytes = schedule.now } ∷ [])) (Some []) (Some r.1.taken) r.0) }
+    ensures { IfOk result (λ r. top.Ends (codes "replay" ∷ codes "bank" ∷ codes "plan" ∷ []) (Some (record { name = codes "bank"; bytes = object.now } ∷ record { name = codes "plan"; bytes = schedule.now } ∷ [])) (Some []) (Some r.1.taken) r.0) }
 {
     let words = words_of(alloc, &[b"replay", b"bank", b"plan"])?;
     let mut shelf = shelf_of(alloc, object, schedule)?;
