@@ -1,5 +1,5 @@
 -- A command whose files are allowed ends well, unless something outside fails.
-use Rattle.std.proofs.Common.{◌≡◌, ℕ, List, Option, Some, None, inl, inr, refl, sym, subst, ◌∙◌}
+use Rattle.std.proofs.Common.{◌≡◌, ℕ, List, Option, Some, None, inl, inr, refl, sym, ap, subst, ◌∙◌}
 use Rattle.std.specs.Prelude.{IsSome, IfSome}
 use Rattle.ham_syntax.specs.Objects.{Schema}
 use Rattle.ham_bytes.specs.declared.shelf.File.{File}
@@ -7,19 +7,21 @@ use Rattle.ham_bytes.specs.Causes.{Rose}
 use Rattle.ham_objfile.specs.Texts.{IsAnsweredOnce}
 use Rattle.ham_rules.specs.declared.claim.Claim.{Claim}
 use Rattle.ham_derive.specs.Texts.{text_of}
-use Rattle.ham_replay.specs.Replays.{played}
+use Rattle.ham_witness.specs.ExampleText.{example_text}
+use Rattle.ham_replay.specs.Replays.{Played}
 use Rattle.ham_tables.specs.TablesText.{tables_text}
 use Rattle.ham_plain.specs.Written.{plain_of}
 use Rattle.ham_cli.specs.declared.exit.Exit.{Exit}
 use Rattle.ham_cli.specs.declared.exit.Exit.TheVariants as exits
 use Rattle.ham_cli.specs.declared.named.NamedClaim.{NamedClaim}
 use Rattle.ham_cli.specs.Exits.{IsCounted}
-use Rattle.ham_cli.specs.Commands.{Asked, Replays, Normalizes, Checks, Derives, Tabulates, asked}
+use Rattle.ham_cli.specs.Commands.{Asked, Replays, Normalizes, Checks, Derives, Exemplifies, Tabulates, asked}
 use Rattle.ham_syntax.specs.declared.limits.TheConstants.{MAX_OBJECT_BYTES, MAX_SCHEDULE_BYTES}
 use Rattle.ham_cli.specs.Files.{HasFile}
-use Rattle.ham_cli.specs.ReplayEnds.{EndsAtSchedule}
+use Rattle.ham_cli.specs.ReplayEnds.{IsPlayed, IsPlayedOnce, EndsAtSchedule}
 use Rattle.ham_cli.specs.CheckEnds.{IsGoodText, ok_line, EndsWith, EndsAtFile}
 use Rattle.ham_cli.specs.DeriveEnds.{claim_named, none_line, EndsWithClaim, EndsWithNames}
+use Rattle.ham_cli.specs.ExampleEnds.{derivable_line, none_shown_line, EndsWithCase, EndsWithNamed}
 use Rattle.ham_cli.specs.TablesEnds.{EndsWithPlan}
 use Rattle.ham_cli.specs.Writes.{PutsMade}
 use Rattle.ham_cli.specs.Top.{EndsAs, IsAllowed, Completes}
@@ -30,21 +32,18 @@ not_both : {A : Type 0} (x : Option A) → x ≡ None → IsSome x → ⊥
 not_both None e h = absurd cc
 not_both (Some a) e h = absurd cc
 
-refused_there : (o p : Schema) (s t : List ℕ) → o ≡ p → s ≡ t → (played o s).refused ≡ None → (played p t).refused ≡ None
-refused_there o p s t e f none = subst (λ (x : List ℕ). (played p x).refused ≡ None) f (subst (λ (x : Schema). (played x s).refused ≡ None) e none)
-
 -- the schedule's lines are all allowed, so a replay doesn't end before their end but for a fault
-at_schedule : (files : List File) (name s : List ℕ) (o p : Schema) (before now : Option (List ℕ)) (exit : Exit) → o ≡ p → HasFile files name MAX_SCHEDULE_BYTES s → (played o s).refused ≡ None
-    → IsCalm exit → EndsAtSchedule p files name before now exit → Fine exit
-at_schedule files name s o p before now exits.Done same h none calm e = inl refl
-at_schedule files name s o p before now exits.Usage same h none calm e = absurd e
-at_schedule files name s o p before now exits.ObjectRefused same h none calm e = absurd e
-at_schedule files name s o p before now exits.ScheduleRefused same h none calm e = absurd (not_both (played p e.0).refused (refused_there o p s e.0 same (one_file files name MAX_SCHEDULE_BYTES MAX_SCHEDULE_BYTES s e.0 h e.1.file) none) e.2)
-at_schedule files name s o p before now exits.ReadFault same h none calm e = absurd (calm.reads refl)
-at_schedule files name s o p before now exits.WriteFault same h none calm e = absurd (calm.writes refl)
-at_schedule files name s o p before now exits.NoMemory same h none calm e = inr refl
-at_schedule files name s o p before now exits.TooLong same h none calm e = absurd (not_too_long files name MAX_SCHEDULE_BYTES s h e.0)
-at_schedule files name s o p before now exits.DerivationRefused same h none calm e = absurd e
+at_schedule : IsPlayedOnce → (files : List File) (name : List ℕ) (o : Schema) (p : Played) (before now : Option (List ℕ)) (exit : Exit) → IsPlayed o files name p → p.refused ≡ None
+    → IsCalm exit → EndsAtSchedule o files name before now exit → Fine exit
+at_schedule once files name o p before now exits.Done h none calm e = inl refl
+at_schedule once files name o p before now exits.Usage h none calm e = absurd e
+at_schedule once files name o p before now exits.ObjectRefused h none calm e = absurd e
+at_schedule once files name o p before now exits.ScheduleRefused h none calm e = absurd (not_both e.0.refused (ap (λ (x : Played). x.refused) (once o files name e.0 p e.1.is h) ∙ none) e.2)
+at_schedule once files name o p before now exits.ReadFault h none calm e = absurd (calm.reads refl)
+at_schedule once files name o p before now exits.WriteFault h none calm e = absurd (calm.writes refl)
+at_schedule once files name o p before now exits.NoMemory h none calm e = inr refl
+at_schedule once files name o p before now exits.TooLong h none calm e = absurd (not_too_long files name MAX_SCHEDULE_BYTES h.schedule h.file e.0)
+at_schedule once files name o p before now exits.DerivationRefused h none calm e = absurd e
 
 -- the file is a good derivation's text, so it isn't refused
 with_bytes : (o p : Schema) (bytes b : List ℕ) (before now : Option (List ℕ)) (exit : Exit) → o ≡ p → bytes ≡ b → IsGoodText o bytes → IsCalm exit → EndsWith p b before now exit → Fine exit
@@ -77,16 +76,35 @@ with_names o p named claim before now exit same is calm h =
     let there : claim_named p named ≡ Some claim = subst (λ (x : Schema). claim_named x named ≡ Some claim) same is in
     with_claim p claim before now exit calm (subst (λ (x : Option Claim). EndsWithNames p x before now exit) there h)
 
-ended_by : IsAnsweredOnce → (files : List File) (asks : Asked) (before now : Option (List ℕ)) (exit : Exit) → IsCalm exit → EndsAs (Some asks) files before now exit → IsAllowed asks files → Fine exit
-ended_by one files (Replays object schedule) before now exit calm ends a =
-    from_fine one files object a.0 before now exit (λ o. EndsAtSchedule o files schedule before now exit) calm a.1 (λ p same e. at_schedule files schedule a.2.0 a.0 p before now exit same a.2.1 a.2.2 calm e) ends
-ended_by one files (Normalizes object) before now exit calm ends a =
+with_case : (p : Schema) (claim : Claim) (before now : Option (List ℕ)) (exit : Exit) → IsCalm exit → EndsWithCase p claim before now exit → Fine exit
+with_case p claim before now exit calm h = elim h [
+  | inl r ↦ inr r.0
+  | inr k ↦ elim k [
+    | inl s ↦ made_fine before now (example_text p claim s.case) exit calm s.puts
+    | inr n ↦ elim n [
+      | inl d ↦ put_fine before now derivable_line exits.Done exit calm refl d.puts
+      | inr u ↦ put_fine before now none_shown_line exits.Done exit calm refl u.puts
+    ]
+  ]
+]
+
+with_case_named : (o p : Schema) (named : NamedClaim) (claim : Claim) (before now : Option (List ℕ)) (exit : Exit) → o ≡ p → claim_named o named ≡ Some claim → IsCalm exit → EndsWithNamed p (claim_named p named) before now exit → Fine exit
+with_case_named o p named claim before now exit same is calm h =
+    let there : claim_named p named ≡ Some claim = subst (λ (x : Schema). claim_named x named ≡ Some claim) same is in
+    with_case p claim before now exit calm (subst (λ (x : Option Claim). EndsWithNamed p x before now exit) there h)
+
+ended_by : IsAnsweredOnce → IsPlayedOnce → (files : List File) (asks : Asked) (before now : Option (List ℕ)) (exit : Exit) → IsCalm exit → EndsAs (Some asks) files before now exit → IsAllowed asks files → Fine exit
+ended_by one once files (Replays object schedule) before now exit calm ends a =
+    from_fine one files object a.0 before now exit (λ o. EndsAtSchedule o files schedule before now exit) calm a.1 (λ p same e. at_schedule once files schedule p a.2.0 before now exit (subst (λ (x : Schema). IsPlayed x files schedule a.2.0) same a.2.1) a.2.2 calm e) ends
+ended_by one once files (Normalizes object) before now exit calm ends a =
     from_fine one files object a.0 before now exit (λ o. PutsMade before now (plain_of o) exits.Done exit) calm a.1 (λ p same e. made_fine before now (plain_of p) exit calm e) ends
-ended_by one files (Checks object file) before now exit calm ends a =
+ended_by one once files (Checks object file) before now exit calm ends a =
     from_fine one files object a.0 before now exit (λ o. EndsAtFile o files file before now exit) calm a.1 (λ p same e. at_file files file a.2.0 a.0 p before now exit same a.2.1 a.2.2 calm e) ends
-ended_by one files (Derives object named) before now exit calm ends a =
+ended_by one once files (Derives object named) before now exit calm ends a =
     from_fine one files object a.0 before now exit (λ o. EndsWithNames o (claim_named o named) before now exit) calm a.1 (λ p same e. with_names a.0 p named a.2.0 before now exit same a.2.1 calm e) ends
-ended_by one files (Tabulates object replicas) before now exit calm ends a =
+ended_by one once files (Exemplifies object named) before now exit calm ends a =
+    from_fine one files object a.0 before now exit (λ o. EndsWithNamed o (claim_named o named) before now exit) calm a.1 (λ p same e. with_case_named a.0 p named a.2.0 before now exit same a.2.1 calm e) ends
+ended_by one once files (Tabulates object replicas) before now exit calm ends a =
     from_fine one files object a.0 before now exit (λ o. EndsWithPlan o replicas before now exit) calm a.1 (λ p same e. made_fine before now (tables_text p e.0) exit calm e.2) ends
 
 same_asked : (a b : Asked) → Some a ≡ Some b → a ≡ b
@@ -99,8 +117,8 @@ calm_by shelf shelf_now sink sink_now exit counted r w = record {
 }
 
 -- what a command that ended so completes
-pub completes : IsAnsweredOnce → (words : List (List ℕ)) (held : Option (List File)) (asks : Asked) (before now : Option (List ℕ)) (shelf shelf_now sink sink_now : ℕ) (exit : Exit) → IsCounted shelf shelf_now sink sink_now exit
+pub completes : IsAnsweredOnce → IsPlayedOnce → (words : List (List ℕ)) (held : Option (List File)) (asks : Asked) (before now : Option (List ℕ)) (shelf shelf_now sink sink_now : ℕ) (exit : Exit) → IsCounted shelf shelf_now sink sink_now exit
     → asked words ≡ Some asks → IfSome held (λ files. EndsAs (Some asks) files before now exit) → IfSome held (λ files. Completes words files (Rose shelf shelf_now) (Rose sink sink_now) exit)
-completes one words None asks before now shelf shelf_now sink sink_now exit counted is ends = tt
-completes one words (Some files) asks before now shelf shelf_now sink sink_now exit counted is ends = λ others shape allowed r w.
-    ended_by one files asks before now exit (calm_by shelf shelf_now sink sink_now exit counted r w) ends (subst (λ (x : Asked). IsAllowed x files) (same_asked others asks (sym shape ∙ is)) allowed)
+completes one once words None asks before now shelf shelf_now sink sink_now exit counted is ends = tt
+completes one once words (Some files) asks before now shelf shelf_now sink sink_now exit counted is ends = λ others shape allowed r w.
+    ended_by one once files asks before now exit (calm_by shelf shelf_now sink sink_now exit counted r w) ends (subst (λ (x : Asked). IsAllowed x files) (same_asked others asks (sym shape ∙ is)) allowed)

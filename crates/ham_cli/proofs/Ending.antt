@@ -13,6 +13,11 @@ use Rattle.ham_rules.specs.declared.claim.Reason.{Reason}
 use Rattle.ham_rules.specs.Derivations.{IsGood}
 use Rattle.ham_derive.specs.Texts.{text_of}
 use Rattle.ham_analyse.specs.Analysis.{AreFirst, IsFirstWithout}
+use Rattle.ham_rules.specs.Claims.{Derivable}
+use Rattle.ham_witness.specs.declared.answers.Example.{Example}
+use Rattle.ham_witness.specs.Cases.{cases}
+use Rattle.ham_witness.specs.Shown.{IsFirstExample, NoneBreaks}
+use Rattle.ham_witness.specs.ExampleText.{example_text}
 use Rattle.ham_plan.specs.Plans.{Plan}
 use Rattle.ham_tables.specs.DerivedPlans.{IsDerivedPlan}
 use Rattle.ham_tables.specs.TablesText.{tables_text}
@@ -24,10 +29,11 @@ use Rattle.ham_cli.specs.declared.refusal.Refusal.{Refusal}
 use Rattle.ham_cli.specs.declared.refusal.Refusal.TheVariants as refusals
 use Rattle.ham_syntax.specs.declared.limits.TheConstants.{MAX_OBJECT_BYTES}
 use Rattle.ham_cli.specs.Files.{is_want, HasFile, HasFault, ReadsObject, FindsObject}
-use Rattle.ham_cli.specs.Writes.{RunsOut, PutsMade, Stops, object_refusal, EndsAtObject, EndsFrom}
+use Rattle.ham_cli.specs.Writes.{RunsOut, Puts, PutsMade, Stops, object_refusal, EndsAtObject, EndsFrom}
 use Rattle.ham_cli.specs.Refusals.{derivation_refusal}
 use Rattle.ham_cli.specs.CheckEnds.{IsVerdict, EndsWith}
 use Rattle.ham_cli.specs.DeriveEnds.{none_line, EndsWithClaim, EndsWithNames}
+use Rattle.ham_cli.specs.ExampleEnds.{derivable_line, none_shown_line, EndsWithCase, EndsWithNamed}
 use Rattle.ham_cli.specs.TablesEnds.{EndsWithPlan}
 
 -- a fault that isn't want of memory is the first fault
@@ -69,7 +75,7 @@ pub unnamed : (o : Schema) (found : Option Claim) (before now : Option (List ℕ
 unnamed o found before now exit none puts = subst (λ (x : Option Claim). EndsWithNames o x before now exit) none puts
 
 -- a fetch gave the file of the name
-has_file : (files : List File) (name bytes : List ℕ) (limit : ℕ) (file : Option (List ℕ)) → file_of files name ≡ file → Fetches file limit (Ok bytes) → HasFile files name limit bytes
+pub has_file : (files : List File) (name bytes : List ℕ) (limit : ℕ) (file : Option (List ℕ)) → file_of files name ≡ file → Fetches file limit (Ok bytes) → HasFile files name limit bytes
 has_file files name bytes limit None is h = absurd h
 has_file files name bytes limit (Some file) is h = record { holds = is ∙ ap Some (sym h.0); within = subst (λ (x : List ℕ). length x ≤ limit) (sym h.0) h.1 }
 
@@ -93,3 +99,16 @@ underived o claim k before now exit without puts = inr (inr (k, without, puts))
 
 pub planned : (o : Schema) (replicas : ℕ) (p : Plan) (before now : Option (List ℕ)) (exit : Exit) → IsDerivedPlan o p → p.replicas ≡ replicas → PutsMade before now (tables_text o p) exits.Done exit → EndsWithPlan o replicas before now exit
 planned o replicas p before now exit is are puts = (p, record { derived = is; replicas_are = are }, puts)
+
+-- a case was found and told, or that there is none
+pub case_shown : (o : Schema) (claim : Claim) (e : Example) (before now : Option (List ℕ)) (exit : Exit) → IsFirstExample o claim (cases o claim) e → PutsMade before now (example_text o claim e) exits.Done exit → EndsWithCase o claim before now exit
+case_shown o claim e before now exit first puts = inr (inl (record { case = e; first = first; puts = puts }))
+
+pub case_derivable : (o : Schema) (claim : Claim) (before now : Option (List ℕ)) (exit : Exit) → Derivable o claim → Puts before now derivable_line exits.Done exit → EndsWithCase o claim before now exit
+case_derivable o claim before now exit derivable puts = inr (inr (inl (record { derivable = derivable; puts = puts })))
+
+pub case_not_shown : (o : Schema) (claim : Claim) (before now : Option (List ℕ)) (exit : Exit) → ¬ Derivable o claim → NoneBreaks o claim (cases o claim) → Puts before now none_shown_line exits.Done exit → EndsWithCase o claim before now exit
+case_not_shown o claim before now exit underivable none puts = inr (inr (inr (record { underivable = underivable; none = none; puts = puts })))
+
+pub case_unnamed : (o : Schema) (found : Option Claim) (before now : Option (List ℕ)) (exit : Exit) → None ≡ found → PutsMade before now (derivation_refusal refusals.UnknownName) exits.DerivationRefused exit → EndsWithNamed o found before now exit
+case_unnamed o found before now exit none puts = subst (λ (x : Option Claim). EndsWithNamed o x before now exit) none puts

@@ -17,6 +17,7 @@ pub data Asked : Type 0 where
   Normalizes : (object : List ℕ) → Asked
   Checks : (object file : List ℕ) → Asked
   Derives : (object : List ℕ) (claim : NamedClaim) → Asked
+  Exemplifies : (object : List ℕ) (claim : NamedClaim) → Asked
   Tabulates : (object : List ℕ) (replicas : ℕ) → Asked
 
 -- ---- claims
@@ -60,9 +61,12 @@ on_object_and verb object word =
     else if bytes_eq verb (codes "tables") then option_map (Tabulates object) (replicas_of word)
     else None
 
--- derive OBJECT and a claim
+-- derive OBJECT, or example OBJECT, and a claim
 unfoldable pub on_claim : List ℕ → List ℕ → Option NamedClaim → Option Asked
-on_claim verb object claim = if bytes_eq verb (codes "derive") then option_map (Derives object) claim else None
+on_claim verb object claim =
+    if bytes_eq verb (codes "derive") then option_map (Derives object) claim
+    else if bytes_eq verb (codes "example") then option_map (Exemplifies object) claim
+    else None
 
 abbrev pub shape_of : List (List ℕ) → Option Asked
 shape_of (verb ∷ object ∷ []) = on_object verb object
@@ -83,6 +87,7 @@ seen (commands.Replay object schedule) = Replays object.now schedule.now
 seen (commands.Normal object) = Normalizes object.now
 seen (commands.Check object file) = Checks object.now file.now
 seen (commands.Derive object claim) = Derives object.now claim
+seen (commands.Example object claim) = Exemplifies object.now claim
 seen (commands.Tables object replicas) = Tabulates object.now replicas
 
 -- its replicas, where it has some, are at least one and not too many
@@ -92,3 +97,4 @@ HasReplicas (commands.Replay object schedule) = Unit {0}
 HasReplicas (commands.Normal object) = Unit {0}
 HasReplicas (commands.Check object file) = Unit {0}
 HasReplicas (commands.Derive object claim) = Unit {0}
+HasReplicas (commands.Example object claim) = Unit {0}

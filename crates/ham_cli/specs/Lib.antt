@@ -2,11 +2,13 @@ pub mod Commands
 pub mod Exits
 pub mod Files
 pub mod Writes
+pub mod Sought
 pub mod Refusals
 pub mod ReplayEnds
 pub mod NormalEnds
 pub mod CheckEnds
 pub mod DeriveEnds
+pub mod ExampleEnds
 pub mod TablesEnds
 pub mod Top
 pub use Rattle.ham_syntax.specs.Objects
@@ -18,7 +20,10 @@ pub use Rattle.ham_forms.specs.FaultTexts
 pub use Rattle.ham_rules.specs.Derivations
 pub use Rattle.ham_derive.specs.Texts as DerivationTexts
 pub use Rattle.ham_analyse.specs.Analysis
+pub use Rattle.ham_witness.specs.Shown
+pub use Rattle.ham_witness.specs.ExampleText
 pub use Rattle.ham_tables.specs.DerivedPlans
 pub use Rattle.ham_tables.specs.TablesText
-pub use Rattle.ham_world.specs.Headline
+pub use Rattle.ham_runs.specs.Headline
 pub use Rattle.ham_replay.specs.Replays
+pub use Rattle.ham_replay.specs.Claims

@@ -1,28 +1,49 @@
--- How `replay OBJECT SCHEDULE` ends.
-use Rattle.std.specs.Prelude.{◌≡◌, ◌⊎◌, ℕ, List, Option, None, IsSome}
+-- How `replay OBJECT SCHEDULE` ends: it writes the text of one run, under the plans that the rules derive from the object.
+--     AreDerived         the plans, for 1 to MAX_REPLICAS replicas
+--     IsPlayed, Plays    what is played of a file under them; they are sound, and the run is faithful
+--     IsPlayedOnce       an object and a schedule fix what is played
+use Rattle.std.specs.Prelude.{◌≡◌, ◌⊎◌, ℕ, ◌-◌, ◌≤◌, List, length, slice_get, Option, Some, None, IsSome}
+use Rattle.ham_syntax.specs.declared.limits.TheConstants.{MAX_REPLICAS, MAX_SCHEDULE_BYTES}
 use Rattle.ham_syntax.specs.Objects.{Schema}
 use Rattle.ham_bytes.specs.declared.shelf.File.{File}
 use Rattle.ham_bytes.specs.Outside.{TakesWhole, TakesSome}
-use Rattle.ham_world.specs.Headline.{IsFaithful}
-use Rattle.ham_replay.specs.Replays.{played}
+use Rattle.ham_plan.specs.Plans.{Plan}
+use Rattle.ham_replay.specs.Claims.{ArePlans, settings_of, IsPlayedFaithfully}
+use Rattle.ham_replay.specs.Replays.{Played, played}
 use Rattle.ham_cli.specs.declared.exit.Exit.{Exit}
 use Rattle.ham_cli.specs.declared.exit.Exit.TheVariants as exits
-use Rattle.ham_syntax.specs.declared.limits.TheConstants.{MAX_SCHEDULE_BYTES}
 use Rattle.ham_cli.specs.Files.{HasFile, IsTooLong}
+use Rattle.ham_cli.specs.TablesEnds.{IsPlanFor}
 use Rattle.ham_cli.specs.Writes.{Nothing, EndsFrom}
 
--- a schedule of this name is played: the run that it makes is faithful
-pub record Plays (o : Schema) (files : List File) (name schedule : List ℕ) : Type 0 where
+-- for each number of replicas, the plan that the rules derive
+pub record AreDerived (o : Schema) (plans : List Plan) : Type 0 where
+  pub all : length plans ≡ MAX_REPLICAS
+  pub derived : (n : ℕ) (p : Plan) → 1 ≤ n → n ≤ MAX_REPLICAS → slice_get plans (n - 1) ≡ Some p → IsPlanFor o n p
+
+-- this is what is played of the schedule of this name
+pub record IsPlayed (o : Schema) (files : List File) (name : List ℕ) (p : Played) : Type 0 where
+  pub plans : List Plan
+  pub derived : AreDerived o plans
+  pub schedule : List ℕ
   pub file : HasFile files name MAX_SCHEDULE_BYTES schedule
-  pub faithful : IsFaithful (played o schedule).run
+  pub comes : p ≡ played o (settings_of plans) schedule
+
+-- the same, and the plans are sound, and the run of the world that was made is faithful
+pub record Plays (o : Schema) (files : List File) (name : List ℕ) (p : Played) : Type 0 where
+  pub is : IsPlayed o files name p
+  pub sound : ArePlans o is.plans
+  pub faithful : IsPlayedFaithfully o (settings_of is.plans) p
+
+-- whichever derived plans are taken
+abbrev pub IsPlayedOnce : Type 0
+IsPlayedOnce = (o : Schema) (files : List File) (name : List ℕ) (p q : Played) → IsPlayed o files name p → IsPlayed o files name q → p ≡ q
 
 abbrev pub EndsAtSchedule : Schema → List File → List ℕ → Option (List ℕ) → Option (List ℕ) → Exit → Type 0
-EndsAtSchedule o files name before now exits.Done =
-    (s : List ℕ) × Plays o files name s × ((played o s).refused ≡ None) × TakesWhole before now (played o s).text
-EndsAtSchedule o files name before now exits.ScheduleRefused =
-    (s : List ℕ) × Plays o files name s × IsSome (played o s).refused × TakesWhole before now (played o s).text
-EndsAtSchedule o files name before now exits.WriteFault = (s : List ℕ) × Plays o files name s × TakesSome before now (played o s).text
-EndsAtSchedule o files name before now exits.NoMemory = Nothing before now ⊎ ((s : List ℕ) × Plays o files name s × TakesSome before now (played o s).text)
+EndsAtSchedule o files name before now exits.Done = (p : Played) × Plays o files name p × (p.refused ≡ None) × TakesWhole before now p.text
+EndsAtSchedule o files name before now exits.ScheduleRefused = (p : Played) × Plays o files name p × IsSome p.refused × TakesWhole before now p.text
+EndsAtSchedule o files name before now exits.WriteFault = (p : Played) × Plays o files name p × TakesSome before now p.text
+EndsAtSchedule o files name before now exits.NoMemory = Nothing before now ⊎ ((p : Played) × Plays o files name p × TakesSome before now p.text)
 EndsAtSchedule o files name before now exits.TooLong = IsTooLong files name MAX_SCHEDULE_BYTES × Nothing before now
 EndsAtSchedule o files name before now exits.ReadFault = Nothing before now
 EndsAtSchedule o files name before now exits.ObjectRefused = ⊥

@@ -1,9 +1,11 @@
 //! The command `check OBJECT FILE`.
 
-ghost use Rattle.std.specs.Prelude.{◌≡◌, ◌≤◌, IfSome};
+ghost use Rattle.std.specs.Prelude.{◌≡◌, ◌≤◌, ◌⊎◌, IfSome};
 ghost use Rattle.ham_syntax.specs.Checked.{IsChecked};
 ghost use Rattle.ham_cli.specs.CheckEnds as check_ends;
+ghost use Rattle.ham_cli.specs.Commands.{Checks};
 ghost use Rattle.ham_cli.specs.Exits.{IsCounted, IsSinkCounted};
+ghost use Rattle.ham_cli.specs.Sought.{AsksFirst, IsFileEnd, IsTextEnd};
 
 use crate::exit::{Exit, exit_of_fetch};
 use crate::objects::{fetch_object, tell_missing};
@@ -26,6 +28,7 @@ pub fn run_check<H: Shelf, K: Sink>(
 ) -> Exit
     ensures ends { IfSome (H.held shelf.old) (λ files. check_ends.EndsCheck files object.now file.now (K.taken out.old) (K.taken out.new) result) }
     ensures counted { IsCounted (H.faults shelf.old) (H.faults shelf.new) (K.faults out.old) (K.faults out.new) result }
+    ensures sought { AsksFirst (Checks object.now file.now) (H.sought shelf.old) (H.sought shelf.new) result }
 {
     match fetch_object(alloc, object, shelf) {
         Ok(object) => check_file(alloc, &object, file, shelf, out),
@@ -43,6 +46,7 @@ fn check_file<H: Shelf, K: Sink>(
 ) -> Exit
     ensures ends { IfSome (H.held shelf.old) (λ files. check_ends.EndsAtFile object.now files file.now (K.taken out.old) (K.taken out.new) result) }
     ensures counted { IsCounted (H.faults shelf.old) (H.faults shelf.new) (K.faults out.old) (K.faults out.new) result }
+    ensures sought { IsFileEnd Exit.DerivationRefused (H.sought shelf.old) (H.sought shelf.new) file.now result }
 {
     match shelf.fetch(alloc, file, MAX_OBJECT_BYTES) {
         Ok(bytes) => tell_verdict(alloc, object, bytes.items(), out),
@@ -54,6 +58,7 @@ fn check_file<H: Shelf, K: Sink>(
 fn tell_verdict<K: Sink>(alloc: Global, object: &Object, bytes: &[u8], out: &mut K) -> Exit
     ensures ends { check_ends.EndsWith object.now bytes.now (K.taken out.old) (K.taken out.new) result }
     ensures counted { IsSinkCounted (K.faults out.old) (K.faults out.new) result }
+    ensures end { IsTextEnd Exit.Done result ⊎ IsTextEnd Exit.DerivationRefused result }
 {
     match verdict_of(alloc, object, bytes) {
         Ok(None) => put_text(out, b"ok\n", Exit::Done),

@@ -28,6 +28,10 @@ pub enum Command<'a> {
         object: &'a [u8],
         claim: NamedClaim,
     },
+    Example {
+        object: &'a [u8],
+        claim: NamedClaim,
+    },
     Tables {
         object: &'a [u8],
         replicas: u8,
@@ -104,6 +108,9 @@ fn on_claim<'a>(verb: &[u8], object: &'a [u8], claim: Option<NamedClaim>) -> Opt
     if verb == b"derive".as_slice() {
         let claim = claim?;
         Some(Command::Derive { object, claim })
+    } else if verb == b"example".as_slice() {
+        let claim = claim?;
+        Some(Command::Example { object, claim })
     } else {
         None
     }

@@ -1,9 +1,11 @@
 //! The command `derive OBJECT` with a claim.
 
-ghost use Rattle.std.specs.Prelude.{◌≡◌, ◌≤◌, IfSome, IfOk};
+ghost use Rattle.std.specs.Prelude.{◌≡◌, ◌≤◌, ◌⊎◌, IfSome, IfOk};
 ghost use Rattle.ham_derive.specs.Texts.{HasMethods};
 ghost use Rattle.ham_cli.specs.DeriveEnds as derive_ends;
+ghost use Rattle.ham_cli.specs.Commands.{Derives};
 ghost use Rattle.ham_cli.specs.Exits.{IsCounted, IsSinkCounted};
+ghost use Rattle.ham_cli.specs.Sought.{AsksFirst, IsTextEnd};
 
 use crate::exit::Exit;
 use crate::named::NamedClaim;
@@ -27,6 +29,7 @@ pub fn run_derive<H: Shelf, K: Sink>(
 ) -> Exit
     ensures ends { IfSome (H.held shelf.old) (λ files. derive_ends.EndsDerive files object.now claim (K.taken out.old) (K.taken out.new) result) }
     ensures counted { IsCounted (H.faults shelf.old) (H.faults shelf.new) (K.faults out.old) (K.faults out.new) result }
+    ensures sought { AsksFirst (Derives object.now claim) (H.sought shelf.old) (H.sought shelf.new) result }
 {
     match fetch_object(alloc, object, shelf) {
         Ok(object) => derive_named(alloc, &object, claim, out),
@@ -37,6 +40,7 @@ pub fn run_derive<H: Shelf, K: Sink>(
 fn derive_named<K: Sink>(alloc: Global, object: &Object, claim: NamedClaim, out: &mut K) -> Exit
     ensures ends { derive_ends.EndsWithNames object.now (derive_ends.claim_named object.now claim) (K.taken out.old) (K.taken out.new) result }
     ensures counted { IsSinkCounted (K.faults out.old) (K.faults out.new) result }
+    ensures end { IsTextEnd Exit.Done result ⊎ IsTextEnd Exit.DerivationRefused result }
 {
     match claim.find(object) {
         Some(claim) => derive_claim(alloc, object, &claim, out),
@@ -52,6 +56,7 @@ fn derive_claim<K: Sink>(alloc: Global, object: &Object, claim: &Claim, out: &mu
     requires { HasMethods object.now claim.now }
     ensures ends { derive_ends.EndsWithClaim object.now claim.now (K.taken out.old) (K.taken out.new) result }
     ensures counted { IsSinkCounted (K.faults out.old) (K.faults out.new) result }
+    ensures end { IsTextEnd Exit.Done result ⊎ IsTextEnd Exit.DerivationRefused result }
 {
     match analyse(alloc, object, claim) {
         Ok(derivation) => put_made(

@@ -4,10 +4,13 @@
 mod checks;
 mod command;
 mod derives;
+mod examples;
 mod exit;
+pub mod laws;
 mod named;
 mod normals;
 mod objects;
+mod plans;
 mod refusal;
 mod replays;
 mod tabulates;

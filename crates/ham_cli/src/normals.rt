@@ -2,7 +2,9 @@
 
 ghost use Rattle.std.specs.Prelude.{◌≡◌, ◌≤◌, IfSome};
 ghost use Rattle.ham_cli.specs.NormalEnds as normal_ends;
+ghost use Rattle.ham_cli.specs.Commands.{Normalizes};
 ghost use Rattle.ham_cli.specs.Exits.{IsCounted};
+ghost use Rattle.ham_cli.specs.Sought.{AsksFirst};
 
 use crate::exit::Exit;
 use crate::objects::{fetch_object, tell_missing};
@@ -20,6 +22,7 @@ pub fn run_normal<H: Shelf, K: Sink>(
 ) -> Exit
     ensures ends { IfSome (H.held shelf.old) (λ files. normal_ends.EndsNormal files object.now (K.taken out.old) (K.taken out.new) result) }
     ensures counted { IsCounted (H.faults shelf.old) (H.faults shelf.new) (K.faults out.old) (K.faults out.new) result }
+    ensures sought { AsksFirst (Normalizes object.now) (H.sought shelf.old) (H.sought shelf.new) result }
 {
     match fetch_object(alloc, object, shelf) {
         Ok(object) => put_made(out, print(alloc, &object), Exit::Done),

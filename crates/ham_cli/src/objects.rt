@@ -4,6 +4,7 @@ ghost use Rattle.std.specs.Prelude.{◌≡◌, ◌≤◌, ℕ, List, Err, IfSome
 ghost use Rattle.ham_bytes.specs.declared.shelf.File.{File};
 ghost use Rattle.ham_cli.specs.Exits.{IsCounted};
 ghost use Rattle.ham_cli.specs.Files.{is_want, ReadsObject, FindsObject, IsFindingCounted};
+ghost use Rattle.ham_cli.specs.Sought.{SeeksObject, IsMissingEnd};
 ghost use Rattle.ham_cli.specs.Writes as writes;
 
 use crate::exit::{Exit, exit_of_fetch};
@@ -27,6 +28,7 @@ pub enum Missing {
 pub fn fetch_object<H: Shelf>(alloc: Global, name: &[u8], shelf: &mut H) -> Result<Object, Missing>
     ensures held { H.held shelf.new ≡ H.held shelf.old }
     ensures found { IfSome (H.held shelf.old) (λ files. FindsObject files name.now result) }
+    ensures sought { SeeksObject (H.sought shelf.old) (H.sought shelf.new) name.now result }
     ensures later { H.faults shelf.old ≤ H.faults shelf.new }
     ensures counted { IsFindingCounted (H.faults shelf.old) (H.faults shelf.new) result }
 {
@@ -67,6 +69,7 @@ fn is_want(fault: &FileFault) -> bool
 pub fn tell_missing<K: Sink>(alloc: Global, missing: Missing, out: &mut K) -> Exit
     ensures ends { (files : List File) (name : List ℕ) → FindsObject files name (Err missing) → writes.EndsAtObject files name (K.taken out.old) (K.taken out.new) result }
     ensures counted { (shelf shelf_now : ℕ) → IsFindingCounted shelf shelf_now (Err missing) → IsCounted shelf shelf_now (K.faults out.old) (K.faults out.new) result }
+    ensures end { IsMissingEnd missing result }
 {
     match missing {
         Missing::Unread(fault) => exit_of_fetch(fault),

@@ -3,10 +3,13 @@
 ghost use Rattle.std.specs.Prelude.{◌≡◌, ◌≤◌, IfSome};
 ghost use Rattle.ham_cli.specs.ReplayEnds as replay_ends;
 ghost use Rattle.ham_cli.specs.Exits as exits;
+ghost use Rattle.ham_cli.specs.Commands.{Replays};
 ghost use Rattle.ham_cli.specs.Exits.{IsCounted};
+ghost use Rattle.ham_cli.specs.Sought.{AsksFirst, IsFileEnd};
 
 use crate::exit::{Exit, exit_of_fetch};
 use crate::objects::{fetch_object, tell_missing};
+use crate::plans::plans_of;
 use ham_bytes::{Shelf, Sink};
 use ham_replay::{ReplayEnd, replay};
 use ham_syntax::Object;
@@ -23,6 +26,7 @@ pub fn run_replay<H: Shelf, K: Sink>(
 ) -> Exit
     ensures ends { IfSome (H.held shelf.old) (λ files. replay_ends.EndsReplay files object.now schedule.now (K.taken out.old) (K.taken out.new) result) }
     ensures counted { IsCounted (H.faults shelf.old) (H.faults shelf.new) (K.faults out.old) (K.faults out.new) result }
+    ensures sought { AsksFirst (Replays object.now schedule.now) (H.sought shelf.old) (H.sought shelf.new) result }
 {
     match fetch_object(alloc, object, shelf) {
         Ok(object) => replay_file(alloc, &object, schedule, shelf, out),
@@ -40,12 +44,13 @@ fn replay_file<H: Shelf, K: Sink>(
 ) -> Exit
     ensures ends { IfSome (H.held shelf.old) (λ files. replay_ends.EndsAtSchedule object.now files schedule.now (K.taken out.old) (K.taken out.new) result) }
     ensures counted { IsCounted (H.faults shelf.old) (H.faults shelf.new) (K.faults out.old) (K.faults out.new) result }
+    ensures sought { IsFileEnd Exit.ScheduleRefused (H.sought shelf.old) (H.sought shelf.new) schedule.now result }
 {
     let bytes = match shelf.fetch(alloc, schedule, MAX_SCHEDULE_BYTES) {
         Ok(bytes) => bytes,
         Err(fault) => return exit_of_fetch(fault),
     };
-    exit_of_replay(replay(alloc, object, bytes.items(), out))
+    exit_of_replay(replay(alloc, object, &plans_of(object), bytes.items(), out))
 }
 
 fn exit_of_replay(end: ReplayEnd) -> Exit

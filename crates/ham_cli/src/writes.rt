@@ -2,6 +2,7 @@
 
 ghost use Rattle.std.specs.Prelude.{◌≡◌, ◌≤◌, ℕ, List, [], ◌∷◌, ◌++◌, IfOk};
 ghost use Rattle.ham_cli.specs.Exits.{IsSinkCounted};
+ghost use Rattle.ham_cli.specs.Sought.{IsTextEnd};
 ghost use Rattle.ham_cli.specs.Writes as writes;
 
 use crate::exit::Exit;
@@ -15,6 +16,7 @@ pub fn put_text<K: Sink>(out: &mut K, text: &[u8], with: Exit) -> Exit
     ensures ends { writes.Puts (K.taken out.old) (K.taken out.new) text.now with result }
     ensures later { K.faults out.old ≤ K.faults out.new }
     ensures counted { IsSinkCounted (K.faults out.old) (K.faults out.new) result }
+    ensures end { IsTextEnd with result }
 {
     match put_all(out, text) {
         Ok(()) => with,
@@ -28,6 +30,7 @@ pub fn put_made<K: Sink>(out: &mut K, made: Result<Bytes, NoMemory>, with: Exit)
     ensures ends { (text : List ℕ) → IfOk made (λ bytes. bytes ≡ text) → writes.PutsMade (K.taken out.old) (K.taken out.new) text with result }
     ensures later { K.faults out.old ≤ K.faults out.new }
     ensures counted { IsSinkCounted (K.faults out.old) (K.faults out.new) result }
+    ensures end { IsTextEnd with result }
 {
     match made {
         Ok(text) => put_text(out, text.items(), with),

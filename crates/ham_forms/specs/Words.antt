@@ -11,8 +11,8 @@ use Rattle.ham_check.specs.declared.raw.RawTerm.TheVariants.{Any, Constant, Name
 use Rattle.ham_syntax.specs.Names.{is_name}
 use Rattle.ham_forms.specs.declared.fault.Unread.{Unread}
 use Rattle.ham_forms.specs.declared.fault.Unread.TheVariants as unread
-use Rattle.ham_forms.specs.declared.words.Rule.{Rule}
-use Rattle.ham_forms.specs.declared.words.Rule.TheVariants as rules_of
+use Rattle.ham_forms.specs.declared.words.InvariantKind.{InvariantKind}
+use Rattle.ham_forms.specs.declared.words.InvariantKind.TheVariants as kinds
 
 -- what comes after a step, where it finds something
 infixl 10 ◌>>=◌
@@ -47,10 +47,10 @@ verb_of word =
     if_word word (codes "present") Present (if_word word (codes "absent") Absent (if_word word (codes "atleast") AtLeast (if_word word (codes "atmost") AtMost
     (if_word word (codes "insert") Insert (if_word word (codes "delete") Delete (if_word word (codes "add") Add (if_word word (codes "subtract") Subtract None)))))))
 
--- what an invariant rules
-unfoldable pub rule_of : List ℕ → Option Rule
-rule_of word =
-    if_word word (codes "reference") rules_of.Reference (if_word word (codes "unique") rules_of.Unique (if_word word (codes "low") rules_of.Low (if_word word (codes "high") rules_of.High None)))
+-- what kind of invariant a word names
+unfoldable pub invariant_kind_of : List ℕ → Option InvariantKind
+invariant_kind_of word =
+    if_word word (codes "reference") kinds.Reference (if_word word (codes "unique") kinds.Unique (if_word word (codes "low") kinds.Low (if_word word (codes "high") kinds.High None)))
 
 -- the word, where it is a name
 abbrev pub name_of : List ℕ → Option (List ℕ)

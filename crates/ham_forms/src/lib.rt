@@ -5,4 +5,6 @@ pub mod fault;
 pub mod words;
 
 pub use fault::{FileFault, Unread, bad, missing, unknown};
-pub use words::{Rule, read_keyed, read_kind, read_limit, read_rule, read_term, read_verb};
+pub use words::{
+    InvariantKind, read_invariant_kind, read_keyed, read_kind, read_limit, read_term, read_verb,
+};

@@ -58,27 +58,27 @@ pub fn read_verb(word: &[u8]) -> Option<Verb>
     }
 }
 
-/// What an invariant rules.
+/// What kind of invariant a word names.
 #[derive(Clone, Copy, Debug, PartialEq, Eq)]
-pub enum Rule {
+pub enum InvariantKind {
     Reference,
     Unique,
     Low,
     High,
 }
 
-#[tactic(auto, unfolding(crate::specs::Words::rule_of))]
-pub fn read_rule(word: &[u8]) -> Option<Rule>
-    ensures { result ≡ read.rule_of word.now }
+#[tactic(auto, unfolding(crate::specs::Words::invariant_kind_of))]
+pub fn read_invariant_kind(word: &[u8]) -> Option<InvariantKind>
+    ensures { result ≡ read.invariant_kind_of word.now }
 {
     if word == b"reference".as_slice() {
-        Some(Rule::Reference)
+        Some(InvariantKind::Reference)
     } else if word == b"unique".as_slice() {
-        Some(Rule::Unique)
+        Some(InvariantKind::Unique)
     } else if word == b"low".as_slice() {
-        Some(Rule::Low)
+        Some(InvariantKind::Low)
     } else if word == b"high".as_slice() {
-        Some(Rule::High)
+        Some(InvariantKind::High)
     } else {
         None
     }

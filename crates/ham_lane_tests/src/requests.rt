@@ -35,9 +35,9 @@ fn requests_without_a_verdict_are_due(rt: HostRuntime) -> Result<(), Fail> {
     assert_eq!(rt; asks.len(0), 2);
     asks.on_verdict(0, 1, &Ruling::Full)?;
     let due = asks.due(0)?;
-    assert_eq!(rt; due.items().len(), 1);
+    assert_eq!(rt; due.len(), 1);
     assert_eq!(rt;
-        matches!(due.items().first(), Some(Frame::Request { number: 2, .. })),
+        matches!(due.first(), Some(Frame::Request { number: 2, .. })),
         true
     );
     Ok(())
@@ -73,6 +73,6 @@ fn calls_above_the_acknowledged_are_due(rt: HostRuntime) -> Result<(), Fail> {
     lane.append(call(rt.alloc(), 0, number))?;
     lane.ack(2, 1)?;
     let due = due_calls(rt.alloc(), &lane, 2)?;
-    assert_eq!(rt; due.items().len(), 1);
+    assert_eq!(rt; due.len(), 1);
     Ok(())
 }

@@ -14,7 +14,7 @@ use Rattle.ham_syntax.specs.declared.object.Method.{Method}
 use Rattle.ham_syntax.specs.declared.object.Param.{Param}
 use Rattle.ham_syntax.specs.declared.term.Term.TheVariants.{Param as Parameter}
 use Rattle.ham_syntax.specs.Checked.{IsChecked, IsParamOf, IsOnCounter, IsMethod, IsEffect, IsGuard}
-use Rattle.ham_state.specs.declared.step.Step.TheVariants as steps
+use Rattle.ham_steps.specs.declared.step.Step.TheVariants as steps
 use Rattle.ham_state.specs.Content.{State, value, with_change}
 use Rattle.ham_state.specs.Steps.{after_steps}
 use Rattle.ham_state.proofs.ContentLaws.{has-with_change, value-with_change, same_state}

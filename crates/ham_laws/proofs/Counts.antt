@@ -5,7 +5,7 @@ use Rattle.std.proofs.lemmas.Bool.{eqb-true, eq-eqb, and_parts}
 use Rattle.ham_laws.specs.Executions.{Constraints, Execution, Needs, IsInOrder, IsClosed, IsClosedAfter, IsWellCoordinated, method_of}
 use Rattle.ham_meaning.specs.Relations.{Meaning}
 use Rattle.ham_plan.specs.Lists.{In, IsOnceEach}
-use Rattle.ham_laws.specs.Drain.{LanesOrdered}
+use Rattle.ham_laws.specs.Drain.{IsWaiting, LanesOrdered}
 use Rattle.ham_laws.specs.Counts.{of_lane, of_slot, IsReadyByCounts, IsNumbered, ConflictsShareLanes}
 use Rattle.ham_plan.proofs.Lists.{occurrence_of, in_without, decide_in, true_or_false}
 use Rattle.ham_laws.proofs.Bridge.{calls_after}
@@ -156,10 +156,10 @@ module _ {C : Type 0} (m : Meaning) (p : Constraints) (e : Execution C m.Act) wh
               (λ y j ty. needs y (j, inr (inr (subst (λ z. p.depends (method_of m e c) z ≡ true) (sym (slot_parts f l y ty).1) dep))));
         }
 
-    -- ready by number and counts exactly where it is new and all its needs are logged
+    -- ready by number and counts exactly where it may be logged next
     pub ready_exactly : (log : List C) (c : C) → IsClosed m p e log → In c e.decided →
-        IsReadyByCounts m p e number log c ↔ ((In c log → ⊥) × ((n : C) → Needs m p e c n → In n log))
+        IsReadyByCounts m p e number log c ↔ IsWaiting m p e log e.decided c
     ready_exactly log c h d = (
-      λ ready. (new_from_counts log c h d ready, needs_from_counts log c h d ready),
-      λ needs. counts_from_needs log c h d needs.0 needs.1,
+      λ ready. record { came = d; new = new_from_counts log c h d ready; needs = needs_from_counts log c h d ready },
+      λ waits. counts_from_needs log c h d waits.new waits.needs,
     )

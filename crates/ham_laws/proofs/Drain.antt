@@ -5,8 +5,9 @@ use Rattle.std.proofs.lemmas.Bool.{cases_eq}
 use Rattle.ham_meaning.specs.Relations.{Meaning}
 use Rattle.ham_plan.specs.Lists.{In, Within, SameCalls, StartsWith}
 use Rattle.ham_laws.specs.Executions.{Constraints, Execution, IsClosed, IsWellCoordinated}
-use Rattle.ham_laws.specs.Turns.{IsDrain}
-use Rattle.ham_laws.specs.Drain.{InReach, IsWaiting, Drains, LanesOrdered}
+use Rattle.ham_laws.specs.Turns.{IsDrain, IsPartDrain}
+use Rattle.ham_laws.specs.Drain.{InReach, IsWaiting, LogsWaiting, Drains, LanesOrdered}
+use Rattle.ham_laws.specs.Drain.LogsWaiting.{Stop, Log}
 use Rattle.ham_laws.specs.Drain.InReach.{Logged, Delivered}
 use Rattle.ham_laws.specs.Drain.Drains.{Settled, Next}
 use Rattle.ham_plan.proofs.Lists.{in_front, in_last, decide_in}
@@ -17,7 +18,7 @@ module _ {C : Type 0} (m : Meaning) (p : Constraints) (e : Execution C m.Act) (d
   pub drained_closed : {log after : List C} → Within delivered e.decided → Drains m p e delivered log after → IsClosed m p e log → IsClosed m p e after
   drained_closed known (Settled none) h = h
   drained_closed known (Next {log = log} c waits least rest) h =
-      drained_closed known rest (ready_closed m p e log c h (record { decided = known c waits.came; new = waits.new; needs = waits.needs }))
+      drained_closed known rest (ready_closed m p e log c h (record { came = known c waits.came; new = waits.new; needs = waits.needs }))
 
   pub log_grows : {log after : List C} → Drains m p e delivered log after → StartsWith log after
   log_grows (Settled {log = log} none) = starts_itself log
@@ -102,6 +103,33 @@ drain_keeps m p e later r delivered well turn =
       ];
       logs_closed = λ q. elim (cases_eq q r) [
         | inl is ↦ subst (λ z. IsClosed m p e (later.log z)) (sym is) (drained_closed m p e delivered turn.known turn.own_log (well.logs_closed r))
+        | inr ne ↦ subst (λ l. IsClosed m p e l) (sym (turn.other_logs q ne)) (well.logs_closed q)
+      ];
+    })
+
+-- ---- a drain that stops half-way
+module _ {C : Type 0} (m : Meaning) (p : Constraints) (e : Execution C m.Act) (delivered : List C) where
+  part_closed : {log after : List C} → Within delivered e.decided → LogsWaiting m p e delivered log after → IsClosed m p e log → IsClosed m p e after
+  part_closed known Stop h = h
+  part_closed known (Log {log = log} c waits rest) h =
+      part_closed known rest (ready_closed m p e log c h (record { came = known c waits.came; new = waits.new; needs = waits.needs }))
+
+  part_grows : {log after : List C} → LogsWaiting m p e delivered log after → StartsWith log after
+  part_grows (Stop {log = log}) = starts_itself log
+  part_grows (Log {log = log} {after = after} c waits rest) = starts_on log (log ++ c ∷ []) after (c ∷ [], refl) (part_grows rest)
+
+pub part_keeps : {C : Type 0} (m : Meaning) (p : Constraints) (e later : Execution C m.Act) (r : ℕ) (delivered : List C) →
+    IsWellCoordinated m p e → IsPartDrain m p e later r delivered → IsWellCoordinated m p later
+part_keeps m p e later r delivered well turn =
+    delivery_keeps m p e later well (record {
+      extends = turn.extends;
+      decided = turn.decided;
+      logs_grow = λ q. elim (cases_eq q r) [
+        | inl is ↦ subst (λ z. StartsWith (e.log z) (later.log z)) (sym is) (part_grows m p e delivered turn.own_log)
+        | inr ne ↦ ([], turn.other_logs q ne ∙ sym (append-nil (e.log q)))
+      ];
+      logs_closed = λ q. elim (cases_eq q r) [
+        | inl is ↦ subst (λ z. IsClosed m p e (later.log z)) (sym is) (part_closed m p e delivered turn.known turn.own_log (well.logs_closed r))
         | inr ne ↦ subst (λ l. IsClosed m p e l) (sym (turn.other_logs q ne)) (well.logs_closed q)
       ];
     })

@@ -5,7 +5,8 @@ use Rattle.std.proofs.lemmas.Bool.{cases_eq}
 use Rattle.ham_meaning.specs.Relations.{Meaning}
 use Rattle.ham_plan.specs.Lists.{In, Within, StartsWith}
 use Rattle.ham_laws.specs.Executions.{Constraints, IsSound, Execution, Needs, IsWellCoordinated, method_of, state_after, end_of, IsInOrder, IsClosed, IsClosedAfter}
-use Rattle.ham_laws.specs.Turns.{Extends, IsDecision, IsDelivery, IsReady}
+use Rattle.ham_laws.specs.Turns.{Extends, IsDecision, IsDelivery}
+use Rattle.ham_laws.specs.Drain.{IsWaiting}
 use Rattle.ham_plan.proofs.Lists.{in_front, in_back, in_last}
 use Rattle.ham_laws.proofs.Bridge.{calls_after}
 
@@ -31,8 +32,8 @@ closed_push m p e seen (x ∷ xs) c h d new_seen new needs = (
 )
 
 pub ready_closed : {C : Type 0} (m : Meaning) (p : Constraints) (e : Execution C m.Act) (log : List C) (c : C) →
-    IsClosed m p e log → IsReady m p e log c → IsClosed m p e (log ++ c ∷ [])
-ready_closed m p e log c h ready = closed_push m p e [] log c h ready.decided (λ k. k) ready.new (λ n need. inr (ready.needs n need))
+    IsClosed m p e log → IsWaiting m p e log e.decided c → IsClosed m p e (log ++ c ∷ [])
+ready_closed m p e log c h ready = closed_push m p e [] log c h ready.came (λ k. k) ready.new (λ n need. inr (ready.needs n need))
 
 in_order_later : {C : Type 0} (b b' : C → List C) (earlier xs : List C) → ((x : C) → In x xs → b' x ≡ b x) → IsInOrder b earlier xs → IsInOrder b' earlier xs
 in_order_later b b' earlier [] same h = tt

@@ -16,3 +16,6 @@ pub mod Banking
 pub mod Paying
 pub mod Sharpness
 pub mod Missing
+pub mod CutStates
+pub mod Draining
+pub mod Sharper

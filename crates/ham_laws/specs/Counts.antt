@@ -3,8 +3,8 @@ use Rattle.std.specs.Prelude.{◌≡◌, ◌↔◌, ℕ, ◌+◌, ◌≤◌, Boo
 use Rattle.ham_syntax.specs.declared.act.Place.{Place}
 use Rattle.ham_meaning.specs.Relations.{Meaning}
 use Rattle.ham_plan.specs.Lists.{In}
-use Rattle.ham_laws.specs.Executions.{Constraints, Execution, Needs, IsClosed, IsWellCoordinated, method_of}
-use Rattle.ham_laws.specs.Drain.{LanesOrdered}
+use Rattle.ham_laws.specs.Executions.{Constraints, Execution, IsClosed, IsWellCoordinated, method_of}
+use Rattle.ham_laws.specs.Drain.{IsWaiting, LanesOrdered}
 
 -- the call is in the lane
 abbrev pub of_lane : {C A : Type 0} → Execution C A → ℕ → C → Bool
@@ -35,4 +35,4 @@ ReadyExactly m =
     (p : Constraints) (e : Execution Place m.Act) (number : Place → ℕ) →
     IsWellCoordinated m p e → LanesOrdered e → ConflictsShareLanes m p e → IsNumbered e number →
     (log : List Place) (c : Place) → IsClosed m p e log → In c e.decided →
-    IsReadyByCounts m p e number log c ↔ ((In c log → ⊥) × ((n : Place) → Needs m p e c n → In n log))
+    IsReadyByCounts m p e number log c ↔ IsWaiting m p e log e.decided c

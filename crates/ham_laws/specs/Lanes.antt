@@ -4,7 +4,7 @@ use Rattle.ham_syntax.specs.declared.act.Place.{Place}
 use Rattle.ham_meaning.specs.Relations.{Meaning}
 use Rattle.ham_plan.specs.Lists.{In}
 use Rattle.ham_laws.specs.Executions.{Constraints, Execution, IsWellCoordinated}
-use Rattle.ham_laws.specs.Turns.{IsDecision, IsDrain}
+use Rattle.ham_laws.specs.Turns.{IsDecision, IsDelivery, IsDrain}
 use Rattle.ham_laws.specs.Drain.{LanesOrdered}
 use Rattle.ham_laws.specs.Counts.{of_lane, IsNumbered}
 
@@ -25,4 +25,11 @@ abbrev pub DrainsKeepLanes : Meaning → Type 0
 DrainsKeepLanes m =
     (p : Constraints) (e later : Execution Place m.Act) (r : ℕ) (delivered : List Place) (number : Place → ℕ) → IsWellCoordinated m p e →
     IsDrain m p e later r delivered → LanesOrdered e → IsNumbered e number →
+    LanesOrdered later × IsNumbered later number
+
+-- whatever is delivered keeps lanes ordered and numbered
+abbrev pub DeliveriesKeepLanes : Meaning → Type 0
+DeliveriesKeepLanes m =
+    (p : Constraints) (e later : Execution Place m.Act) (number : Place → ℕ) → IsWellCoordinated m p e →
+    IsDelivery m p e later → LanesOrdered e → IsNumbered e number →
     LanesOrdered later × IsNumbered later number

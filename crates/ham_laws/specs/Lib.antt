@@ -10,6 +10,7 @@ pub mod Single
 pub mod Bank
 pub mod Register
 pub mod Purse
+pub mod Slips
 pub use Rattle.ham_plan.specs.Lists
 pub use Rattle.ham_plan.specs.Plans
 pub use Rattle.ham_meaning.specs.Relations

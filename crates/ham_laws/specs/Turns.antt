@@ -3,8 +3,8 @@ use Rattle.std.specs.Prelude.{◌≡◌, ◌≢◌, ◌++◌, ℕ, true, List, [
 use Rattle.ham_syntax.specs.declared.act.Place.{Place}
 use Rattle.ham_meaning.specs.Relations.{Meaning}
 use Rattle.ham_plan.specs.Lists.{In, Within, StartsWith}
-use Rattle.ham_laws.specs.Executions.{Constraints, IsSound, Execution, Needs, method_of, end_of, IsClosed, IsWellCoordinated}
-use Rattle.ham_laws.specs.Drain.{Drains}
+use Rattle.ham_laws.specs.Executions.{Constraints, IsSound, Execution, method_of, end_of, IsClosed, IsWellCoordinated}
+use Rattle.ham_laws.specs.Drain.{LogsWaiting, Drains}
 
 -- of the calls decided in e, the later execution says what e says
 pub record Extends {C A : Type 0} (e later : Execution C A) : Type 0 where
@@ -29,12 +29,6 @@ pub record IsDecision {C : Type 0} (m : Meaning) (p : Constraints) (e later : Ex
   pub own_log : later.log r ≡ e.log r ++ c ∷ []
   pub other_logs : (q : ℕ) → q ≢ r → later.log q ≡ e.log q
 
--- the call c may be logged after this log
-pub record IsReady {C : Type 0} (m : Meaning) (p : Constraints) (e : Execution C m.Act) (log : List C) (c : C) : Type 0 where
-  pub decided : In c e.decided
-  pub new : In c log → ⊥
-  pub needs : (n : C) → Needs m p e c n → In n log
-
 -- no call is decided, and the logs grow to closed lists
 pub record IsDelivery {C : Type 0} (m : Meaning) (p : Constraints) (e later : Execution C m.Act) : Type 0 where
   pub extends : Extends e later
@@ -51,6 +45,14 @@ pub record IsDrain {C : Type 0} (m : Meaning) (p : Constraints) (e later : Execu
   pub own_log : Drains m p e delivered (e.log r) (later.log r)
   pub other_logs : (q : ℕ) → q ≢ r → later.log q ≡ e.log q
 
+-- no call is decided, and the replica r logs some of what it may of what was delivered to it: it may stop half-way
+pub record IsPartDrain {C : Type 0} (m : Meaning) (p : Constraints) (e later : Execution C m.Act) (r : ℕ) (delivered : List C) : Type 0 where
+  pub extends : Extends e later
+  pub decided : later.decided ≡ e.decided
+  pub known : Within delivered e.decided
+  pub own_log : LogsWaiting m p e delivered (e.log r) (later.log r)
+  pub other_logs : (q : ℕ) → q ≢ r → later.log q ≡ e.log q
+
 -- a decision keeps an execution well-coordinated
 abbrev pub DecisionsKeep : Meaning → Type 0
 DecisionsKeep m =
@@ -62,3 +64,14 @@ abbrev pub DrainsKeep : Meaning → Type 0
 DrainsKeep m =
     (p : Constraints) (e later : Execution Place m.Act) (r : ℕ) (delivered : List Place) → IsWellCoordinated m p e →
     IsDrain m p e later r delivered → IsWellCoordinated m p later
+
+-- whatever is delivered keeps an execution well-coordinated, where logs grow to closed lists
+abbrev pub DeliveriesKeep : Meaning → Type 0
+DeliveriesKeep m =
+    (p : Constraints) (e later : Execution Place m.Act) → IsWellCoordinated m p e → IsDelivery m p e later → IsWellCoordinated m p later
+
+-- and so does a drain that stops half-way
+abbrev pub PartDrainsKeep : Meaning → Type 0
+PartDrainsKeep m =
+    (p : Constraints) (e later : Execution Place m.Act) (r : ℕ) (delivered : List Place) → IsWellCoordinated m p e →
+    IsPartDrain m p e later r delivered → IsWellCoordinated m p later

@@ -3,9 +3,9 @@
 ghost use Rattle.ham_syntax.specs.Objects.{Schema};
 ghost use Rattle.ham_syntax.specs.Checked.{IsChecked};
 ghost use Rattle.ham_meaning.specs.OfObjects.{meaning};
-ghost use Rattle.ham_laws.specs.Turns.{DecisionsKeep, DrainsKeep};
-ghost use Rattle.ham_laws.specs.Drain.{DrainsReach};
-ghost use Rattle.ham_laws.specs.Lanes.{DecisionsKeepLanes, DrainsKeepLanes};
+ghost use Rattle.ham_laws.specs.Turns.{DecisionsKeep, DeliveriesKeep, DrainsKeep, PartDrainsKeep};
+ghost use Rattle.ham_laws.specs.Drain.{DrainsExist, DrainsReach};
+ghost use Rattle.ham_laws.specs.Lanes.{DecisionsKeepLanes, DeliveriesKeepLanes, DrainsKeepLanes};
 ghost use Rattle.ham_laws.specs.Counts.{ReadyExactly};
 
 /// A replica that decides a permissible call, with every conflicting call in its log, keeps an execution
@@ -19,7 +19,18 @@ pub fn drains_keep()
     ensures { (o : Schema) → IsChecked o → DrainsKeep (meaning o) }
 {}
 
-/// A drain lists exactly the reach of the log and the delivered calls, leaves a closed log closed, and where lanes are
+/// Whatever is delivered keeps an execution well-coordinated, also where a drain stops half-way.
+pub fn deliveries_keep()
+    ensures deliveries { (o : Schema) → DeliveriesKeep (meaning o) }
+    ensures half_way { (o : Schema) → PartDrainsKeep (meaning o) }
+{}
+
+/// From each log there is a drain of what was delivered.
+pub fn drains_exist()
+    ensures { (o : Schema) → DrainsExist (meaning o) }
+{}
+
+/// A drain lists exactly the reach of the log and the delivered calls after the log, leaves a closed log closed, and where lanes are
 /// ordered it can leave one log only, in whatever order the calls came.
 pub fn drains_list_the_reach()
     ensures { (o : Schema) → IsChecked o → DrainsReach (meaning o) }
@@ -30,9 +41,10 @@ pub fn drains_list_the_reach()
 pub fn lanes_stay_ordered()
     ensures decisions { (o : Schema) → IsChecked o → DecisionsKeepLanes (meaning o) }
     ensures drains { (o : Schema) → IsChecked o → DrainsKeepLanes (meaning o) }
+    ensures deliveries { (o : Schema) → DeliveriesKeepLanes (meaning o) }
 {}
 
-/// A call is ready by its number and its counts exactly where it is new and its needs are logged.
+/// A call is ready by its number and its counts exactly where it may be logged next.
 pub fn ready_by_counts()
     ensures { (o : Schema) → IsChecked o → ReadyExactly (meaning o) }
 {}

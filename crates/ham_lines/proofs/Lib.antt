@@ -1,1 +1,3 @@
-pub mod Splitting
+pub mod Spelled
+pub mod Meant
+pub mod ClientReadings

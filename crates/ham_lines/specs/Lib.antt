@@ -1,4 +1,5 @@
-pub mod Words
+pub mod Named
+pub mod Reading
+pub mod Clients
+pub mod ClientReading
 pub mod Texts
-pub use Rattle.ham_text.specs.Cuts
-pub use Rattle.ham_text.specs.Numbers

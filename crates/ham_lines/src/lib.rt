@@ -1,9 +1,24 @@
-//! Lines cut into words, and the texts of answers.
+//! What lines of schedules and lines of clients share: numbers, and acts, counters and relations by name. The lines of
+//! clients, and the texts of answers.
 #![tactic(auto)]
 
-pub mod answer;
-pub mod words;
+mod answer;
+mod client;
+mod fault;
+pub mod laws;
+mod named;
+mod numbers;
+mod words;
+mod writers;
 
-pub use answer::{Answer, text};
+pub use answer::{Answer, push_answer, text};
+pub use client::{ClientLine, ClientWritten, read_client};
+pub use fault::LineFault;
 pub use ham_text::number;
+pub use named::{
+    NamedAct, NamedCounter, counter_name, is_keyed, method_name, read_act, read_counter,
+    read_relation, relation_name,
+};
+pub use numbers::{one_number, three_numbers, two_numbers};
 pub use words::split;
+pub use writers::{push_delivered, push_hexadecimal, push_issued, push_log, push_rows};

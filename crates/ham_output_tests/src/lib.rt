@@ -1,7 +1,5 @@
-//! Tests of the outside of the program, and of the texts of answers.
+//! Tests of the outside of the program.
 #![tactic(auto)]
 
-#[cfg(test)]
-mod answers;
 #[cfg(test)]
 mod outside;

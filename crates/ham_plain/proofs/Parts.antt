@@ -2,9 +2,9 @@
 use Rattle.std.proofs.Common.{◌≡◌, ◌==◌, ℕ, ◌+◌, ◌<◌, List, [], ◌∷◌, length, Option, Some, None, refl, arith}
 use Rattle.std.proofs.lemmas.List.Splits.{length-slice_split}
 use Rattle.ham_text.specs.Cuts.{parts_of}
-use Rattle.ham_forms.specs.declared.words.Rule.{Rule}
-use Rattle.ham_forms.specs.declared.words.Rule.TheVariants.{Reference, Unique, Low, High}
-use Rattle.ham_plain.specs.Reading.{pair_of, single_of, end_of, ruled_of, reference_of, unique_of, low_of, high_of}
+use Rattle.ham_forms.specs.declared.words.InvariantKind.{InvariantKind}
+use Rattle.ham_forms.specs.declared.words.InvariantKind.TheVariants.{Reference, Unique, Low, High}
+use Rattle.ham_plain.specs.Reading.{pair_of, single_of, end_of, by_kind_of, reference_of, unique_of, low_of, high_of}
 
 many_pair : (a b : List ℕ) (words : List (List ℕ)) → 0 < length words → pair_of (a ∷ b ∷ words) ≡ None
 many_pair a b [] h = absurd (omega arith)
@@ -30,12 +30,12 @@ many_end (w ∷ ws) h = refl
 pub no_end : (text : List ℕ) → end_of (parts_of 32 text) ≡ None
 no_end text = many_end (parts_of 32 text) (some_words text)
 
-pub nothing_ruled : (rule : Rule) → ruled_of rule [] ≡ None
-unfolding ruled_of reference_of unique_of low_of high_of
-nothing_ruled Reference = refl
-nothing_ruled Unique = refl
-nothing_ruled Low = refl
-nothing_ruled High = refl
+pub nothing_by_kind : (kind : InvariantKind) → by_kind_of kind [] ≡ None
+unfolding by_kind_of reference_of unique_of low_of high_of
+nothing_by_kind Reference = refl
+nothing_by_kind Unique = refl
+nothing_by_kind Low = refl
+nothing_by_kind High = refl
 
 -- how much is left of a text, where there is one
 abbrev pub size_in : Option (List ℕ) → ℕ

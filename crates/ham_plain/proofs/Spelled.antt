@@ -18,9 +18,9 @@ use Rattle.ham_plain.specs.declared.keyword.Keyword.{Keyword}
 use Rattle.ham_plain.specs.declared.keyword.Keyword.TheVariants as keywords
 use Rattle.ham_syntax.specs.Typed.{IsLimit}
 use Rattle.ham_plain.specs.Plain.{keyed_word, kind_word, verb_word, term_word, IsProperTerm}
-use Rattle.ham_forms.specs.declared.words.Rule.{Rule}
-use Rattle.ham_forms.specs.declared.words.Rule.TheVariants as rules_of
-use Rattle.ham_forms.specs.Words.{◌>>=◌, is_text, keyed_of, kind_of, verb_of, rule_of, name_of, constant_of, term_of, positive_of, negative_of, limit_of}
+use Rattle.ham_forms.specs.declared.words.InvariantKind.{InvariantKind}
+use Rattle.ham_forms.specs.declared.words.InvariantKind.TheVariants as kinds
+use Rattle.ham_forms.specs.Words.{◌>>=◌, is_text, keyed_of, kind_of, verb_of, invariant_kind_of, name_of, constant_of, term_of, positive_of, negative_of, limit_of}
 use Rattle.ham_plain.specs.Reading.{keyword_of}
 use Rattle.ham_forms.proofs.Choices.{both, either, chosen, only, steps, mapped, same_some, text_is, pick}
 
@@ -104,26 +104,26 @@ verb_back AtMost = refl
 verb_back Add = refl
 verb_back Subtract = refl
 
-abbrev pub rule_word : Rule → List ℕ
-rule_word rules_of.Reference = codes "reference"
-rule_word rules_of.Unique = codes "unique"
-rule_word rules_of.Low = codes "low"
-rule_word rules_of.High = codes "high"
+abbrev pub invariant_kind_word : InvariantKind → List ℕ
+invariant_kind_word kinds.Reference = codes "reference"
+invariant_kind_word kinds.Unique = codes "unique"
+invariant_kind_word kinds.Low = codes "low"
+invariant_kind_word kinds.High = codes "high"
 
-pub rule_spelled : (w : List ℕ) (r : Rule) → rule_of w ≡ Some r → w ≡ rule_word r
-unfolding rule_of
-rule_spelled w r e =
-    pick rule_word w (codes "reference") rules_of.Reference r _ refl
-    (pick rule_word w (codes "unique") rules_of.Unique r _ refl
-    (pick rule_word w (codes "low") rules_of.Low r _ refl
-    (pick rule_word w (codes "high") rules_of.High r None refl (nothing r)))) e
+pub invariant_kind_spelled : (w : List ℕ) (r : InvariantKind) → invariant_kind_of w ≡ Some r → w ≡ invariant_kind_word r
+unfolding invariant_kind_of
+invariant_kind_spelled w r e =
+    pick invariant_kind_word w (codes "reference") kinds.Reference r _ refl
+    (pick invariant_kind_word w (codes "unique") kinds.Unique r _ refl
+    (pick invariant_kind_word w (codes "low") kinds.Low r _ refl
+    (pick invariant_kind_word w (codes "high") kinds.High r None refl (nothing r)))) e
 
-pub rule_back : (r : Rule) → rule_of (rule_word r) ≡ Some r
-unfolding rule_of
-rule_back rules_of.Reference = refl
-rule_back rules_of.Unique = refl
-rule_back rules_of.Low = refl
-rule_back rules_of.High = refl
+pub invariant_kind_back : (r : InvariantKind) → invariant_kind_of (invariant_kind_word r) ≡ Some r
+unfolding invariant_kind_of
+invariant_kind_back kinds.Reference = refl
+invariant_kind_back kinds.Unique = refl
+invariant_kind_back kinds.Low = refl
+invariant_kind_back kinds.High = refl
 
 pub name_spelled : (w n : List ℕ) → name_of w ≡ Some n → (w ≡ n) × IsTrue (is_name n)
 name_spelled w n e =

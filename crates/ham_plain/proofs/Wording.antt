@@ -19,12 +19,12 @@ use Rattle.ham_plain.specs.declared.line.PlainLine.TheVariants as lines
 use Rattle.ham_syntax.specs.Typed.{IsLimit}
 use Rattle.ham_text.specs.Numbers.{AreNumbers}
 use Rattle.ham_plain.specs.Plain.{keyed_word, kind_word, verb_word, term_word, part_words, invariant_words, line_words, IsProperTerm, IsProperPart, IsProperInvariant, IsProperLine}
-use Rattle.ham_forms.specs.declared.words.Rule.{Rule}
-use Rattle.ham_forms.specs.declared.words.Rule.TheVariants as rules_of
-use Rattle.ham_forms.specs.Words.{◌>>=◌, is_text, keyed_of, kind_of, verb_of, rule_of, name_of, term_of, limit_of}
-use Rattle.ham_plain.specs.Reading.{keyword_of, single_of, pair_of, is_version, opening_of, relation_of, counter_of, param_of, method_of, values_from, reference_of, unique_of, low_of, high_of, ruled_of, invariant_of, part_of, end_of, line_after, line_of}
+use Rattle.ham_forms.specs.declared.words.InvariantKind.{InvariantKind}
+use Rattle.ham_forms.specs.declared.words.InvariantKind.TheVariants as kinds
+use Rattle.ham_forms.specs.Words.{◌>>=◌, is_text, keyed_of, kind_of, verb_of, invariant_kind_of, name_of, term_of, limit_of}
+use Rattle.ham_plain.specs.Reading.{keyword_of, single_of, pair_of, is_version, opening_of, relation_of, counter_of, param_of, method_of, values_from, reference_of, unique_of, low_of, high_of, by_kind_of, invariant_of, part_of, end_of, line_after, line_of}
 use Rattle.ham_forms.proofs.Choices.{both, only, steps, mapped, same_some, text_is}
-use Rattle.ham_plain.proofs.Spelled.{keyword_word, keyword_spelled, keyword_back, keyed_spelled, keyed_back, kind_spelled, kind_back, verb_spelled, verb_back, rule_word, rule_spelled, rule_back, name_spelled, name_back, number_spelled, number_back, term_spelled, term_back, limit_spelled, limit_back}
+use Rattle.ham_plain.proofs.Spelled.{keyword_word, keyword_spelled, keyword_back, keyed_spelled, keyed_back, kind_spelled, kind_back, verb_spelled, verb_back, invariant_kind_word, invariant_kind_spelled, invariant_kind_back, name_spelled, name_back, number_spelled, number_back, term_spelled, term_back, limit_spelled, limit_back}
 
 -- words that spell a value, which is proper
 pub record Spells {A : Type 0} (words_of : A → List (List ℕ)) (IsFit : A → Type 0) (words : List (List ℕ)) (x : A) : Type 0 where
@@ -147,11 +147,11 @@ part_spelled (verb ∷ name ∷ ws) p e =
     (ap (λ (w : List ℕ). w ∷ name ∷ ws) (verb_spelled verb v.0 v.1) ∙ (ap (λ (w : List ℕ). verb_word v.0 ∷ w ∷ ws) named.0 ∙ ap (λ (vs : List (List ℕ)). verb_word v.0 ∷ n.0 ∷ vs) terms.words_are))
     (record { is_named = named.1; each_term = terms.fit })
 
--- the words of an invariant after its rule
-abbrev Ruled : Rule → List (List ℕ) → RawInvariant → Type 0
-Ruled rule ws i = Spells invariant_words IsProperInvariant (rule_word rule ∷ ws) i
+-- the words of an invariant after its kind
+abbrev SpellsByKind : InvariantKind → List (List ℕ) → RawInvariant → Type 0
+SpellsByKind kind ws i = Spells invariant_words IsProperInvariant (invariant_kind_word kind ∷ ws) i
 
-reference_spelled : (ws : List (List ℕ)) (i : RawInvariant) → reference_of ws ≡ Some i → Ruled rules_of.Reference ws i
+reference_spelled : (ws : List (List ℕ)) (i : RawInvariant) → reference_of ws ≡ Some i → SpellsByKind kinds.Reference ws i
 unfolding reference_of
 reference_spelled [] i e = absurd cc
 reference_spelled (from ∷ []) i e = absurd cc
@@ -166,7 +166,7 @@ reference_spelled (from ∷ to ∷ ws) i e =
     (ap (λ (v : List ℕ). codes "reference" ∷ v ∷ to ∷ ws) source.0 ∙ (ap (λ (v : List ℕ). codes "reference" ∷ f.0 ∷ v ∷ ws) target.0 ∙ ap (λ (vs : List (List ℕ)). codes "reference" ∷ f.0 ∷ t.0 ∷ vs) columns.words_are))
     (source.1, target.1, columns.fit)
 
-unique_spelled : (ws : List (List ℕ)) (i : RawInvariant) → unique_of ws ≡ Some i → Ruled rules_of.Unique ws i
+unique_spelled : (ws : List (List ℕ)) (i : RawInvariant) → unique_of ws ≡ Some i → SpellsByKind kinds.Unique ws i
 unfolding unique_of
 unique_spelled [] i e = absurd cc
 unique_spelled (relation ∷ ws) i e =
@@ -190,7 +190,7 @@ limits_spelled ws p name limit e n l =
     let limited = limit_spelled p.1 limit l in
     record { words_are = pair_spelled ws p e ∙ two p.0 p.1 name (signed_decimal limit) named.0 limited.0; named = named.1; small = limited.1 }
 
-low_spelled : (ws : List (List ℕ)) (i : RawInvariant) → low_of ws ≡ Some i → Ruled rules_of.Low ws i
+low_spelled : (ws : List (List ℕ)) (i : RawInvariant) → low_of ws ≡ Some i → SpellsByKind kinds.Low ws i
 unfolding low_of
 low_spelled ws i e =
     let p = steps (pair_of ws) _ i e in
@@ -199,7 +199,7 @@ low_spelled ws i e =
     let h = limits_spelled ws p.0 n.0 k.0 p.1 n.1 k.1 in
     along invariant_words IsProperInvariant _ (Low n.0 k.0) i k.2 (ap (λ (vs : List (List ℕ)). codes "low" ∷ vs) h.words_are) (h.named, h.small)
 
-high_spelled : (ws : List (List ℕ)) (i : RawInvariant) → high_of ws ≡ Some i → Ruled rules_of.High ws i
+high_spelled : (ws : List (List ℕ)) (i : RawInvariant) → high_of ws ≡ Some i → SpellsByKind kinds.High ws i
 unfolding high_of
 high_spelled ws i e =
     let p = steps (pair_of ws) _ i e in
@@ -208,19 +208,19 @@ high_spelled ws i e =
     let h = limits_spelled ws p.0 n.0 k.0 p.1 n.1 k.1 in
     along invariant_words IsProperInvariant _ (High n.0 k.0) i k.2 (ap (λ (vs : List (List ℕ)). codes "high" ∷ vs) h.words_are) (h.named, h.small)
 
-ruled_spelled : (r : Rule) (ws : List (List ℕ)) (i : RawInvariant) → ruled_of r ws ≡ Some i → Ruled r ws i
-unfolding ruled_of
-ruled_spelled rules_of.Reference ws i e = reference_spelled ws i e
-ruled_spelled rules_of.Unique ws i e = unique_spelled ws i e
-ruled_spelled rules_of.Low ws i e = low_spelled ws i e
-ruled_spelled rules_of.High ws i e = high_spelled ws i e
+by_kind_spelled : (r : InvariantKind) (ws : List (List ℕ)) (i : RawInvariant) → by_kind_of r ws ≡ Some i → SpellsByKind r ws i
+unfolding by_kind_of
+by_kind_spelled kinds.Reference ws i e = reference_spelled ws i e
+by_kind_spelled kinds.Unique ws i e = unique_spelled ws i e
+by_kind_spelled kinds.Low ws i e = low_spelled ws i e
+by_kind_spelled kinds.High ws i e = high_spelled ws i e
 
 invariant_spelled : (ws : List (List ℕ)) (i : RawInvariant) → invariant_of ws ≡ Some i → Spells invariant_words IsProperInvariant ws i
 unfolding invariant_of
 invariant_spelled [] i e = absurd cc
-invariant_spelled (rule ∷ ws) i e =
-    let r = steps (rule_of rule) _ i e in
-    subst (λ (v : List ℕ). Spells invariant_words IsProperInvariant (v ∷ ws) i) (sym (rule_spelled rule r.0 r.1)) (ruled_spelled r.0 ws i r.2)
+invariant_spelled (kind ∷ ws) i e =
+    let r = steps (invariant_kind_of kind) _ i e in
+    subst (λ (v : List ℕ). Spells invariant_words IsProperInvariant (v ∷ ws) i) (sym (invariant_kind_spelled kind r.0 r.1)) (by_kind_spelled r.0 ws i r.2)
 
 -- a line of one kind
 kept : {A : Type 0} (words_of : A → List (List ℕ)) (IsFit : A → Type 0) (keyword : List ℕ) (line : A → PlainLine) (ws : List (List ℕ)) (o : Option A) (l : PlainLine)
@@ -275,16 +275,16 @@ terms_back ts h = values_back term_of term_word IsProperTerm term_back ts [] h
 columns_back : (ns : List ℕ) → AreNumbers ns → values_from number_of [] (map decimal ns) ≡ Some ns
 columns_back ns h = values_back number_of decimal (λ n. n < 2 ^ 64) number_back ns [] h
 
-ruled : (r : Rule) (ws : List (List ℕ)) → invariant_of (rule_word r ∷ ws) ≡ ruled_of r ws
+by_kind : (r : InvariantKind) (ws : List (List ℕ)) → invariant_of (invariant_kind_word r ∷ ws) ≡ by_kind_of r ws
 unfolding invariant_of
-ruled r ws = ap (λ (o : Option Rule). o >>= (λ k. ruled_of k ws)) (rule_back r)
+by_kind r ws = ap (λ (o : Option InvariantKind). o >>= (λ k. by_kind_of k ws)) (invariant_kind_back r)
 
 invariant_back : (i : RawInvariant) → IsProperInvariant i → invariant_of (invariant_words i) ≡ Some i
-unfolding ruled_of reference_of unique_of low_of high_of
-invariant_back (Reference from columns to) h = ruled rules_of.Reference _ ∙ rw (name_back from h.0, name_back to h.1, columns_back columns h.2) refl
-invariant_back (Unique r columns) h = ruled rules_of.Unique _ ∙ rw (name_back r h.0, columns_back columns h.1) refl
-invariant_back (Low c limit) h = ruled rules_of.Low _ ∙ rw (name_back c h.0, limit_back limit h.1) refl
-invariant_back (High c limit) h = ruled rules_of.High _ ∙ rw (name_back c h.0, limit_back limit h.1) refl
+unfolding by_kind_of reference_of unique_of low_of high_of
+invariant_back (Reference from columns to) h = by_kind kinds.Reference _ ∙ rw (name_back from h.0, name_back to h.1, columns_back columns h.2) refl
+invariant_back (Unique r columns) h = by_kind kinds.Unique _ ∙ rw (name_back r h.0, columns_back columns h.1) refl
+invariant_back (Low c limit) h = by_kind kinds.Low _ ∙ rw (name_back c h.0, limit_back limit h.1) refl
+invariant_back (High c limit) h = by_kind kinds.High _ ∙ rw (name_back c h.0, limit_back limit h.1) refl
 
 part_back : (p : RawPart) → IsProperPart p → part_of (part_words p) ≡ Some p
 unfolding part_of

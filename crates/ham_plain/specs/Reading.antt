@@ -8,13 +8,13 @@ use Rattle.ham_check.specs.declared.raw.RawRelation.{RawRelation}
 use Rattle.ham_check.specs.declared.raw.RawPart.{RawPart}
 use Rattle.ham_check.specs.declared.raw.RawInvariant.{RawInvariant}
 use Rattle.ham_check.specs.declared.raw.RawInvariant.TheVariants.{Reference, Unique, Low, High}
-use Rattle.ham_forms.specs.declared.words.Rule.{Rule}
-use Rattle.ham_forms.specs.declared.words.Rule.TheVariants as rules_of
+use Rattle.ham_forms.specs.declared.words.InvariantKind.{InvariantKind}
+use Rattle.ham_forms.specs.declared.words.InvariantKind.TheVariants as kinds
 use Rattle.ham_plain.specs.declared.keyword.Keyword.{Keyword}
 use Rattle.ham_plain.specs.declared.keyword.Keyword.TheVariants as keywords
 use Rattle.ham_plain.specs.declared.line.PlainLine.{PlainLine}
 use Rattle.ham_plain.specs.declared.line.PlainLine.TheVariants as lines
-use Rattle.ham_forms.specs.Words.{◌>>=◌, is_text, if_word, keyed_of, kind_of, verb_of, rule_of, name_of, term_of, limit_of}
+use Rattle.ham_forms.specs.Words.{◌>>=◌, is_text, if_word, keyed_of, kind_of, verb_of, invariant_kind_of, name_of, term_of, limit_of}
 
 -- the first word of a line
 unfoldable pub keyword_of : List ℕ → Option Keyword
@@ -109,17 +109,17 @@ high_of words = do
   limit ← limit_of p.1
   Some (High counter limit)
 
--- what a rule says of the words after it
-unfoldable pub ruled_of : Rule → List (List ℕ) → Option RawInvariant
-ruled_of rules_of.Reference words = reference_of words
-ruled_of rules_of.Unique words = unique_of words
-ruled_of rules_of.Low words = low_of words
-ruled_of rules_of.High words = high_of words
+-- what the kind makes of the words after it
+unfoldable pub by_kind_of : InvariantKind → List (List ℕ) → Option RawInvariant
+by_kind_of kinds.Reference words = reference_of words
+by_kind_of kinds.Unique words = unique_of words
+by_kind_of kinds.Low words = low_of words
+by_kind_of kinds.High words = high_of words
 
--- a rule, and what it is about
+-- a kind of invariant, and what it is about
 unfoldable pub invariant_of : List (List ℕ) → Option RawInvariant
 invariant_of [] = None
-invariant_of (rule ∷ words) = rule_of rule >>= λ rule. ruled_of rule words
+invariant_of (kind ∷ words) = invariant_kind_of kind >>= λ kind. by_kind_of kind words
 
 -- a verb, a name, and any number of terms
 unfoldable pub part_of : List (List ℕ) → Option RawPart

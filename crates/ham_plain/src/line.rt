@@ -8,7 +8,10 @@ ghost use Rattle.ham_plain.specs.Reading as reading;
 
 use crate::keyword::{Keyword, pair, read_keyword, single};
 use ham_check::{RawInvariant, RawPart, RawRelation, RawTerm};
-use ham_forms::{Rule, Unread, read_keyed, read_kind, read_limit, read_rule, read_term, read_verb};
+use ham_forms::{
+    InvariantKind, Unread, read_invariant_kind, read_keyed, read_kind, read_limit, read_term,
+    read_verb,
+};
 use ham_lists::Items;
 use ham_syntax::{Counter, Name, Param};
 use ham_text::{cut, number};
@@ -126,27 +129,27 @@ fn method(text: &[u8]) -> Option<Name>
     Name::new(single(text)?)
 }
 
-#[tactic(auto, using(crate::proofs::Parts::nothing_ruled), unfolding(crate::specs::Reading::invariant_of))]
+#[tactic(auto, using(crate::proofs::Parts::nothing_by_kind), unfolding(crate::specs::Reading::invariant_of))]
 fn invariant(alloc: Global, text: &[u8]) -> Result<RawInvariant, Unread>
     ensures { Finds result (reading.invariant_of (parts_of 32 text.now)) }
 {
-    let (rule, rest) = cut(text, b' ');
-    let rule = read_rule(rule).ok_or(Unread::Nothing)?;
+    let (kind, rest) = cut(text, b' ');
+    let kind = read_invariant_kind(kind).ok_or(Unread::Nothing)?;
     match rest {
-        Some(rest) => ruled(alloc, rule, rest),
+        Some(rest) => by_kind(alloc, kind, rest),
         None => Err(Unread::Nothing),
     }
 }
 
-#[tactic(auto, unfolding(crate::specs::Reading::ruled_of))]
-fn ruled(alloc: Global, rule: Rule, text: &[u8]) -> Result<RawInvariant, Unread>
-    ensures { Finds result (reading.ruled_of rule (parts_of 32 text.now)) }
+#[tactic(auto, unfolding(crate::specs::Reading::by_kind_of))]
+fn by_kind(alloc: Global, kind: InvariantKind, text: &[u8]) -> Result<RawInvariant, Unread>
+    ensures { Finds result (reading.by_kind_of kind (parts_of 32 text.now)) }
 {
-    match rule {
-        Rule::Reference => reference(alloc, text),
-        Rule::Unique => unique(alloc, text),
-        Rule::Low => low(text).ok_or(Unread::Nothing),
-        Rule::High => high(text).ok_or(Unread::Nothing),
+    match kind {
+        InvariantKind::Reference => reference(alloc, text),
+        InvariantKind::Unique => unique(alloc, text),
+        InvariantKind::Low => low(text).ok_or(Unread::Nothing),
+        InvariantKind::High => high(text).ok_or(Unread::Nothing),
     }
 }
 

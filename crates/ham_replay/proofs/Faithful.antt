@@ -1,75 +1,166 @@
--- The run of a schedule is a run: each line that is answered adds the next note, or none.
-use Rattle.std.proofs.Common.{◌≡◌, ℕ, ◌+◌, Bool, true, false, List, [], ◌∷◌, Option, Some, None, refl, sym, subst}
-use Rattle.std.specs.Prelude.{if◌then◌else◌}
-use Rattle.ham_syntax.specs.Objects.{Schema}
-use Rattle.ham_syntax.specs.Checked.{IsChecked}
-use Rattle.ham_lines.specs.declared.answer.Answer.{Answer}
-use Rattle.ham_world.specs.declared.event.Event.{Event}
-use Rattle.ham_world.specs.declared.event.Note.{Note}
-use Rattle.ham_world.specs.declared.event.StepRefusal.{StepRefusal}
-use Rattle.ham_world.specs.Runs.{Run, IsRun, refusal_of, note_of, noted}
-use Rattle.ham_world.specs.Headline.{IsFaithful}
-use Rattle.ham_replay.specs.declared.line.Line.{Line}
-use Rattle.ham_replay.specs.declared.line.Line.TheVariants.{Replicas, Act, Show, Rows}
-use Rattle.ham_replay.specs.Lines.{line_of}
-use Rattle.ham_replay.specs.Replays.{LineOutcome, Refuses, Answers, outcome_at, outcome_of_line, event_outcome, begun, is_replicas, played_from, played_lines, played, then_played, refused_at, answer_line}
-use Rattle.ham_replay.specs.declared.end.LineRefusal.TheVariants.{NotYet}
-use Rattle.ham_lines.specs.declared.answer.Answer.TheVariants as answers
+-- The run of a schedule is a run: each line that is answered adds the turns of some inputs, or none.
+use Rattle.std.proofs.Common.{◌≡◌, ℕ, ◌+◌, ◌-◌, ◌≤◌, Bool, true, false, List, [], ◌∷◌, ◌++◌, length, Option, Some, None, Result, Ok, Err, inl, inr, refl, sym, ap, subst, ◌∙◌, arith}
+use Rattle.std.specs.Prelude.{if◌then◌else◌, fold, slice_get}
+use Rattle.std.proofs.lemmas.List.Sums.{fold-append}
+use Rattle.std.proofs.lemmas.Option.{slice_get_cases}
 use Rattle.ham_text.specs.Cuts.{lines_of}
+use Rattle.ham_syntax.specs.declared.limits.TheConstants.{MAX_REPLICAS}
+use Rattle.ham_syntax.specs.Objects.{Schema}
+use Rattle.ham_plan.specs.Plans.{Plan}
+use Rattle.ham_frame.specs.declared.frame.Frame.{Frame}
+use Rattle.ham_turns.specs.Settings.{Setting, setting_of, rules_of}
+use Rattle.ham_laws.specs.Constrained.{IsPlanned}
+use Rattle.ham_runs.specs.Runs.{Note, IsRun}
+use Rattle.ham_runs.specs.Next.{Input, after_input, run_of}
+use Rattle.ham_runs.specs.Claims.{RunsAreFaithful, InputsGiveRuns}
+use Rattle.ham_runs.specs.Headline.{IsFaithful}
+use Rattle.ham_lines.specs.declared.fault.LineFault.{LineFault}
+use Rattle.ham_lines.specs.declared.answer.Answer.{Answer}
+use Rattle.ham_turns.specs.declared.event.Event.{Event}
+use Rattle.ham_grammar.specs.declared.line.Line.{Line}
+use Rattle.ham_grammar.specs.declared.line.Line.TheVariants.{Replicas, Act, Ask}
+use Rattle.ham_grammar.specs.declared.line.Query.{Query}
+use Rattle.ham_grammar.specs.declared.line.Query.TheVariants as queries
+use Rattle.ham_grammar.specs.Lines.{IsReading, is_skipped}
+use Rattle.ham_grammar.specs.Computed.{read_of}
+use Rattle.ham_world.specs.declared.refusal.StepRefusal.{StepRefusal}
+use Rattle.ham_world.specs.Worlds.{refusal_of, taken}
+use Rattle.ham_replay.specs.Replays.{Turn, Refuses, Answers, event_by, event_turn, answer_if, frame_if, query_turn, read_turn, turn_of, played_from, played_first, played_lines, played}
+use Rattle.ham_replay.specs.Claims.{ArePlans, settings_of, setting_by, IsPlayedFaithfully}
 
--- a run goes on with each event that is not refused
-abbrev pub GoesOn : Type 0
-GoesOn = (r : Run) (e : Event) → IsRun r.object r.notes → refusal_of r e ≡ None → IsRun r.object (note_of r e ∷ r.notes)
+-- notes of a run that inputs give
+pub record IsMade (o : Schema) (y : Setting) (notes : List Note) : Type 0 where
+  pub inputs : List Input
+  pub is : notes ≡ run_of (rules_of o) y inputs
 
--- a run of this object
-pub record IsRunOf (o : Schema) (r : Run) : Type 0 where
-  pub of : r.object ≡ o
-  pub run : IsRun r.object r.notes
+none_made : (o : Schema) (y : Setting) → IsMade o y []
+unfolding run_of
+none_made o y = record { inputs = []; is = refl }
 
-after_event : GoesOn → (o : Schema) (r new : Run) (e : Event) (a : Answer) (why : Option StepRefusal) → refusal_of r e ≡ why → event_outcome r e why ≡ Answers new a → IsRunOf o r → IsRunOf o new
-after_event go o r new e a None is turned h = subst (IsRunOf o) (let same : noted r (note_of r e) ≡ new = cc in same) (record { of = h.of; run = go r e h.run is })
-after_event go o r new e a (Some why) is turned h = absurd cc
+pub taken_made : (o : Schema) (y : Setting) (notes : List Note) (more : List Input) → IsMade o y notes → IsMade o y (taken o y notes more)
+unfolding taken run_of
+taken_made o y notes more h = record {
+  inputs = h.inputs ++ more;
+  is = ap (λ (ns : List Note). fold (after_input (rules_of o) y) ns more) h.is ∙ sym (fold-append (after_input (rules_of o) y) [] h.inputs more);
+}
 
-after_line : GoesOn → (o : Schema) (r new : Run) (a : Answer) (found : Option Line) → outcome_at r found ≡ Answers new a → IsRunOf o r → IsRunOf o new
-after_line go o r new a None turned h = absurd cc
-after_line go o r new a (Some Replicas) turned h = absurd cc
-after_line go o r new a (Some (Show c key)) turned h = subst (IsRunOf o) (let same : r ≡ new = cc in same) h
-after_line go o r new a (Some (Rows q)) turned h = subst (IsRunOf o) (let same : r ≡ new = cc in same) h
-after_line go o r new a (Some (Act e)) turned h = after_event go o r new e a (refusal_of r e) refl turned h
+same_notes : (notes new : List Note) (told bs : List Answer) → Answers notes told ≡ Answers new bs → notes ≡ new
+same_notes notes new told bs e = cc
 
-after_outcome : GoesOn → (o : Schema) (r new : Run) (l : List ℕ) (a : Answer) → outcome_of_line r l ≡ Answers new a → IsRunOf o r → IsRunOf o new
-unfolding outcome_of_line
-after_outcome go o r new l a turned h = after_line go o r new a (line_of r.object l) turned h
+module _ (o : Schema) (y : Setting) where
+  after_event : (notes new : List Note) (e : Event) (told : List Answer) (why : Option StepRefusal) → event_by o y notes e why ≡ Answers new told → IsMade o y notes → IsMade o y new
+  after_event notes new e told None turned h = subst (IsMade o y) (same_notes _ _ _ _ turned) (taken_made o y notes _ h)
+  after_event notes new e told (Some why) turned h = absurd cc
 
-played_by : (number : ℕ) (r : Run) (l : List ℕ) (ls : List (List ℕ)) (t : LineOutcome) → outcome_of_line r l ≡ t → (played_from number r (l ∷ ls)).run ≡ (elim t [ Refuses why ↦ r | Answers new a ↦ (played_from (number + 1) new ls).run ])
-unfolding played_from
-played_by number r l ls (Refuses why) e = rw (played_from, e) refl
-played_by number r l ls (Answers new a) e = rw (played_from, e) refl
+  after_answer : (b : Bool) (notes new : List Note) (a : Answer) (told : List Answer) → answer_if b notes a ≡ Answers new told → notes ≡ new
+  after_answer true notes new a told turned = same_notes _ _ _ _ turned
+  after_answer false notes new a told turned = absurd cc
 
-after_by : GoesOn → (o : Schema) (number : ℕ) (r : Run) (l : List ℕ) (ls : List (List ℕ)) (t : LineOutcome) → outcome_of_line r l ≡ t → IsRunOf o r → ((new : Run) → IsRunOf o new → IsRunOf o (played_from (number + 1) new ls).run)
-    → IsRunOf o (played_from number r (l ∷ ls)).run
-after_by go o number r l ls (Refuses why) e h rest = subst (IsRunOf o) (sym (played_by number r l ls (Refuses why) e)) h
-after_by go o number r l ls (Answers new a) e h rest = subst (IsRunOf o) (sym (played_by number r l ls (Answers new a) e)) (rest new (after_outcome go o r new l a e h))
+  after_frame : (b : Bool) (f : Option Frame) (notes new : List Note) (told : List Answer) → frame_if b notes f ≡ Answers new told → notes ≡ new
+  after_frame true (Some f) notes new told turned = same_notes _ _ _ _ turned
+  after_frame true None notes new told turned = absurd cc
+  after_frame false f notes new told turned = absurd cc
 
-after_lines : GoesOn → (o : Schema) (number : ℕ) (r : Run) (ls : List (List ℕ)) → IsRunOf o r → IsRunOf o (played_from number r ls).run
-unfolding played_from
-after_lines go o number r [] h = h
-after_lines go o number r (l ∷ ls) h = after_by go o number r l ls (outcome_of_line r l) refl h (λ new k. after_lines go o (number + 1) new ls k)
+  after_query : (notes new : List Note) (q : Query) (told : List Answer) → query_turn o y notes q ≡ Answers new told → notes ≡ new
+  unfolding query_turn
+  after_query notes new (queries.Show r c k) told turned = after_answer _ notes new _ told turned
+  after_query notes new (queries.Rows r c) told turned = after_answer _ notes new _ told turned
+  after_query notes new (queries.Log r) told turned = after_answer _ notes new _ told turned
+  after_query notes new (queries.Verdict r g k) told turned = after_answer _ notes new _ told turned
+  after_query notes new (queries.Sent f t) told turned = after_answer _ notes new _ told turned
+  after_query notes new (queries.Frame f t k) told turned = after_frame _ _ notes new told turned
+  after_query notes new (queries.Compare r s) told turned = after_answer _ notes new _ told turned
 
-begun_is : (o : Schema) → IsRunOf o (begun o)
-begun_is o = record { of = refl; run = tt }
+  after_read : (notes new : List Note) (found : Result Line LineFault) (told : List Answer) → read_turn o y notes found ≡ Answers new told → IsMade o y notes → IsMade o y new
+  unfolding event_turn
+  after_read notes new (Ok (Replicas n)) told turned h = absurd cc
+  after_read notes new (Ok (Act e)) told turned h = after_event notes new e told (refusal_of o y notes e) turned h
+  after_read notes new (Ok (Ask q)) told turned h = subst (IsMade o y) (after_query notes new q told turned) h
+  after_read notes new (Err f) told turned h = absurd cc
 
-first_by : (go : GoesOn) (o : Schema) (b : Bool) (ls : List (List ℕ)) → IsRunOf o (if b then then_played (answer_line (answers.Replicas 1)) (played_from 2 (begun o) ls) else refused_at (begun o) (record { line = 1; why = NotYet })).run
-first_by go o true ls = after_lines go o 2 (begun o) ls (begun_is o)
-first_by go o false ls = begun_is o
+  after_line : (b : Bool) (notes new : List Note) (found : Result Line LineFault) (told : List Answer) → (if b then Answers notes [] else read_turn o y notes found) ≡ Answers new told → IsMade o y notes → IsMade o y new
+  after_line true notes new found told turned h = subst (IsMade o y) (same_notes _ _ _ _ turned) h
+  after_line false notes new found told turned h = after_read notes new found told turned h
 
-played_is : GoesOn → (o : Schema) (ls : List (List ℕ)) → IsRunOf o (played_lines o ls).run
-unfolding played_lines
-played_is go o [] = begun_is o
-played_is go o (l ∷ ls) = first_by go o (is_replicas (line_of o l)) ls
+  after_turn : (notes new : List Note) (l : List ℕ) (told : List Answer) → turn_of o y notes l ≡ Answers new told → IsMade o y notes → IsMade o y new
+  unfolding turn_of
+  after_turn notes new l told turned h = after_line (is_skipped l) notes new (read_of o l) told turned h
 
-pub faithful : GoesOn → ((o : Schema) (notes : List Note) → IsChecked o → IsRun o notes → IsFaithful (record { object = o; notes = notes })) → (o : Schema) (schedule : List ℕ) → IsChecked o → IsFaithful (played o schedule).run
-faithful go law o schedule checked =
-    let h = played_is go o (lines_of schedule) in
-    let r : Run = (played o schedule).run in
-    law r.object r.notes (subst IsChecked (sym h.of) checked) h.run
+  played_by : (count number : ℕ) (notes : List Note) (l : List ℕ) (ls : List (List ℕ)) (t : Turn) → turn_of o y notes l ≡ t →
+      (played_from o y count number notes (l ∷ ls)).notes ≡ (elim t [ Refuses why ↦ notes | Answers new told ↦ (played_from o y count (number + 1) new ls).notes ])
+  unfolding played_from
+  played_by count number notes l ls (Refuses why) e = rw (played_from, e) refl
+  played_by count number notes l ls (Answers new told) e = rw (played_from, e) refl
+
+  after_by : (count number : ℕ) (notes : List Note) (l : List ℕ) (ls : List (List ℕ)) (t : Turn) → turn_of o y notes l ≡ t → IsMade o y notes →
+      ((new : List Note) → IsMade o y new → IsMade o y (played_from o y count (number + 1) new ls).notes) → IsMade o y (played_from o y count number notes (l ∷ ls)).notes
+  after_by count number notes l ls (Refuses why) e h rest = subst (IsMade o y) (sym (played_by count number notes l ls (Refuses why) e)) h
+  after_by count number notes l ls (Answers new told) e h rest = subst (IsMade o y) (sym (played_by count number notes l ls (Answers new told) e)) (rest new (after_turn notes new l told e h))
+
+  after_lines : (count number : ℕ) (notes : List Note) (ls : List (List ℕ)) → IsMade o y notes → IsMade o y (played_from o y count number notes ls).notes
+  unfolding played_from
+  after_lines count number notes [] h = h
+  after_lines count number notes (l ∷ ls) h = after_by count number notes l ls (turn_of o y notes l) refl h (λ new k. after_lines count (number + 1) new ls k)
+
+  replicas_by : (count number : ℕ) (notes : List Note) (l : List ℕ) (ls : List (List ℕ)) (t : Turn) → turn_of o y notes l ≡ t →
+      ((new : List Note) → (played_from o y count (number + 1) new ls).replicas ≡ Some count) → (played_from o y count number notes (l ∷ ls)).replicas ≡ Some count
+  unfolding played_from
+  replicas_by count number notes l ls (Refuses why) e rest = rw (played_from, e) refl
+  replicas_by count number notes l ls (Answers new told) e rest = rw (played_from, e) (rest new)
+
+  replicas_are : (count number : ℕ) (notes : List Note) (ls : List (List ℕ)) → (played_from o y count number notes ls).replicas ≡ Some count
+  unfolding played_from
+  replicas_are count number notes [] = refl
+  replicas_are count number notes (l ∷ ls) = replicas_by count number notes l ls (turn_of o y notes l) refl (λ new. replicas_are count (number + 1) new ls)
+
+-- what was played in a world of n replicas is made in its setting, and there are 1 to 8 of them
+pub record IsMadeOf (o : Schema) (settings : ℕ → Setting) (notes : List Note) (n : ℕ) : Type 0 where
+  pub some : 1 ≤ n
+  pub few : n ≤ MAX_REPLICAS
+  pub made : IsMade o (settings n) notes
+
+same_count : (m n : ℕ) → Some m ≡ Some n → m ≡ n
+same_count m n e = cc
+
+module _ (o : Schema) (settings : ℕ → Setting) (readings : (bytes : List ℕ) → IsReading o bytes (read_of o bytes)) where
+  first_by : (number : ℕ) (l : List ℕ) (ls : List (List ℕ)) (found : Result Line LineFault) → read_of o l ≡ found → (n : ℕ) → (played_first o settings number ls found).replicas ≡ Some n →
+      IsMadeOf o settings (played_first o settings number ls found).notes n
+  first_by number l ls (Ok (Replicas m)) e n is =
+      let within = subst (IsReading o l) e (readings l) in
+      let same : m ≡ n = same_count m n (sym (replicas_are o (settings m) m (number + 1) [] ls) ∙ is) in
+      subst (IsMadeOf o settings (played_from o (settings m) m (number + 1) [] ls).notes) same
+      (record { some = omega (arith, within.is_printable.0); few = within.is_printable.1; made = after_lines o (settings m) m (number + 1) [] ls (none_made o (settings m)) })
+  first_by number l ls (Ok (Act a)) e n is = absurd cc
+  first_by number l ls (Ok (Ask q)) e n is = absurd cc
+  first_by number l ls (Err f) e n is = absurd cc
+
+  either_by : (b : Bool) (number : ℕ) (l : List ℕ) (ls : List (List ℕ)) (n : ℕ) →
+      ((n : ℕ) → (played_lines o settings (number + 1) ls).replicas ≡ Some n → IsMadeOf o settings (played_lines o settings (number + 1) ls).notes n) →
+      (if b then played_lines o settings (number + 1) ls else played_first o settings number ls (read_of o l)).replicas ≡ Some n →
+      IsMadeOf o settings (if b then played_lines o settings (number + 1) ls else played_first o settings number ls (read_of o l)).notes n
+  either_by true number l ls n rest is = rest n is
+  either_by false number l ls n rest is = first_by number l ls (read_of o l) refl n is
+
+  all_made : (number : ℕ) (ls : List (List ℕ)) (n : ℕ) → (played_lines o settings number ls).replicas ≡ Some n → IsMadeOf o settings (played_lines o settings number ls).notes n
+  unfolding played_lines
+  all_made number [] n is = absurd cc
+  all_made number (l ∷ ls) n is = either_by (is_skipped l) number l ls n (all_made (number + 1) ls) is
+
+there : (plans : List Plan) (n : ℕ) → length plans ≡ MAX_REPLICAS → 1 ≤ n → n ≤ MAX_REPLICAS → (p : Plan) × (slice_get plans (n - 1) ≡ Some p)
+there plans n eight some few = elim ((slice_get_cases plans (n - 1)).1) [
+  | inl h ↦ (h.0, h.2)
+  | inr h ↦ absurd (omega (arith, h.0))
+]
+
+pub faithful : ((o : Schema) (p : Plan) → IsPlanned o p → InputsGiveRuns (rules_of o) (setting_of p)) → ((o : Schema) (p : Plan) → IsPlanned o p → RunsAreFaithful (rules_of o) (setting_of p)) →
+    ((o : Schema) (bytes : List ℕ) → IsReading o bytes (read_of o bytes)) →
+    (o : Schema) (plans : List Plan) (schedule : List ℕ) → ArePlans o plans → IsPlayedFaithfully o (settings_of plans) (played o (settings_of plans) schedule)
+unfolding settings_of
+faithful give law readings o plans schedule are n is =
+    let h = all_made o (settings_of plans) (readings o) 1 (lines_of schedule) n is in
+    let p = there plans n are.eight h.some h.few in
+    let planned = are.planned n p.0 h.some h.few p.1 in
+    let same : settings_of plans n ≡ setting_of p.0 = ap setting_by p.1 in
+    let run : IsRun (rules_of o) (setting_of p.0) (played o (settings_of plans) schedule).notes =
+    subst (IsRun (rules_of o) (setting_of p.0)) (sym (h.made.is ∙ ap (λ (y : Setting). run_of (rules_of o) y h.made.inputs) same)) ((give o p.0 planned).0 h.made.inputs) in
+    subst (λ (y : Setting). IsFaithful (rules_of o) y (played o (settings_of plans) schedule).notes) (sym same) (law o p.0 planned _ run)

@@ -1,3 +1,4 @@
-pub mod Playing
-pub mod Numbers
 pub mod Faithful
+pub mod Playing
+pub mod Answering
+pub mod Planned

@@ -1,23 +1,44 @@
 -- How a line and a replay end.
-use Rattle.std.specs.Prelude.{◌≡◌, ℕ, ◌≤◌, List, ◌++◌, Option, Some, None, Result, Ok, Err}
+use Rattle.std.specs.Prelude.{◌≡◌, ℕ, ◌≤◌, Bool, true, false, List, ◌++◌, Option, Some, None, Result, Ok, Err}
 use Rattle.ham_bytes.specs.Causes.{Rose}
 use Rattle.ham_bytes.specs.Outside.{TakesWhole, TakesSome}
 use Rattle.ham_bytes.specs.Gathered.{Carries}
-use Rattle.ham_world.specs.Runs.{Run}
+use Rattle.ham_turns.specs.Settings.{setting_of}
+use Rattle.ham_grammar.specs.declared.line.Query.{Query}
+use Rattle.ham_world.specs.declared.refusal.StepRefusal.{StepRefusal}
+use Rattle.ham_world.specs.declared.refusal.StepRefusal.TheVariants as step
+use Rattle.ham_world.specs.Worlds.{Run}
 use Rattle.ham_replay.specs.declared.end.Stop.{Stop}
 use Rattle.ham_replay.specs.declared.end.Stop.TheVariants.{Sink, Memory}
 use Rattle.ham_replay.specs.declared.end.ReplayEnd.{ReplayEnd}
 use Rattle.ham_replay.specs.declared.end.ReplayEnd.TheVariants as ends
-use Rattle.ham_replay.specs.declared.outcome.LineEnd.{LineEnd}
-use Rattle.ham_replay.specs.declared.outcome.LineEnd.TheVariants.{Answered, Refused}
-use Rattle.ham_replay.specs.Replays.{LineOutcome, Refuses, Answers, Played}
+use Rattle.ham_replay.specs.declared.end.LineRefusal.{LineRefusal}
+use Rattle.ham_replay.specs.Replays.{Turn, Refuses, Answers, Played, answer_lines, query_turn, played_from}
 
--- what a line came to is its outcome: the refusal, or the answer and the run that it leaves
-abbrev pub IsOutcomeOf : Run → LineOutcome → LineEnd → Type 0
-IsOutcomeOf new (Refuses why) (Refused reason) = reason ≡ why
-IsOutcomeOf new (Answers r answer) (Answered a) = (a ≡ answer) × (new ≡ r)
-IsOutcomeOf new (Refuses why) (Answered a) = ⊥
-IsOutcomeOf new (Answers r answer) (Refused reason) = ⊥
+-- what a line came to is its turn: none where it was answered, and then these are the notes, and the text has the answers more; or the
+-- reason why it was refused
+abbrev pub IsTurn : Run → Run → List ℕ → List ℕ → Turn → Option LineRefusal → Type 0
+IsTurn old new before after (Refuses why) (Some reason) = (reason ≡ why) × (new ≡ old)
+IsTurn old new before after (Answers notes told) None = (new ≡ record old { notes = notes }) × (after ≡ before ++ answer_lines told)
+IsTurn old new before after (Refuses why) None = ⊥
+IsTurn old new before after (Answers notes told) (Some reason) = ⊥
+
+-- it was memory that was wanting
+abbrev pub is_memory : StepRefusal → Bool
+is_memory step.NoMemory = true
+is_memory step.NoSuchReplica = false
+is_memory step.NoSuchFrame = false
+is_memory step.BadCut = false
+is_memory step.SentFull = false
+is_memory (step.Issue why) = false
+
+-- what a run answers to a query
+abbrev pub asked : Run → Query → Turn
+asked r q = query_turn r.object (setting_of r.plan) r.notes q
+
+-- what is played in a world from a line on
+abbrev pub left : Run → ℕ → List (List ℕ) → Played
+left r number ls = played_from r.object (setting_of r.plan) r.plan.replicas number r.notes ls
 
 -- a replay is done, or refused at a line, exactly as what is played
 abbrev pub EndsAs : Played → ReplayEnd → Type 0

@@ -1,12 +1,16 @@
 //! The replay of a schedule: the text of the one run that its lines make.
 #![tactic(auto)]
 
+mod asking;
 mod end;
 pub mod laws;
-mod line;
-mod outcome;
 mod play;
+mod refusals;
+mod taking;
+mod turn;
 
-pub use end::{LineRefusal, ReplayEnd};
-pub use line::{Line, read_line};
-pub use play::replay;
+pub use asking::compared;
+pub use end::{LineRefusal, Refusal, ReplayEnd};
+pub use ham_grammar::{Line, LineFault, Query, print_line, read_line};
+pub use play::{Plans, replay};
+pub use refusals::{reason_of, refusal_text};

@@ -1,8 +1,9 @@
 //! Frames and their bytes: each kind, streams in every cutting, numbers at and past their bounds, each reason of a
 //! refused byte, torn ends.
 
+use crate::values::{act, call, verdict};
 use ham_frame::{Decoder, Frame, FrameFault, Frames, Ruling, Torn, Why, encode, fits, put_frame};
-use ham_syntax::{Act, Args, Bytes, Call, Items, NoMemory};
+use ham_syntax::{Bytes, Items, NoMemory};
 use std::alloc::Global;
 use std::process::Abort;
 use std::test::Fail;
@@ -69,30 +70,6 @@ const READ: [(&[u8], usize, Result<(), Torn>); 8] = [
     (b"\x06\x06\x04\x1f\x00\x00", 2, Err(Torn { from: 2 })),
 ];
 
-fn act(rt: &impl Abort, method: u8, args: &[u64]) -> Act {
-    Act {
-        method,
-        args: Args::new(args).expect(rt, "few arguments"),
-    }
-}
-
-fn call(alloc: Global, lane: u8, number: u32, act: Act, deps: &[u32]) -> Result<Frame, NoMemory> {
-    Ok(Frame::Call(Call {
-        lane,
-        number,
-        act,
-        deps: Items::of(alloc, deps)?,
-    }))
-}
-
-fn verdict(group: u8, number: u32, ruling: Ruling) -> Frame {
-    Frame::Verdict {
-        group,
-        number,
-        ruling,
-    }
-}
-
 /// The frame that is spelled at this place.
 fn sample(rt: &impl Abort, alloc: Global, place: usize) -> Result<Frame, NoMemory> {
     match place {
@@ -102,8 +79,8 @@ fn sample(rt: &impl Abort, alloc: Global, place: usize) -> Result<Frame, NoMemor
             from: 2,
             of: 8,
         }),
-        1 => call(alloc, 0, 1, act(rt, 1, &[3]), &[1, 0, 65_536]),
-        2 => call(alloc, 255, 65_536, act(rt, 31, &[]), &[]),
+        1 => Ok(call(rt, alloc, 0, 1, act(rt, 1, &[3]), &[1, 0, 65_536])),
+        2 => Ok(call(rt, alloc, 255, 65_536, act(rt, 31, &[]), &[])),
         3 => Ok(Frame::Ack { lane: 1, count: 1 }),
         4 => Ok(Frame::Request {
             group: 31,

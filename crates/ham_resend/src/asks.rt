@@ -4,7 +4,7 @@ ghost use Rattle.std.specs.Prelude.{◌≡◌, ◌-◌, ◌<◌, ◌≤◌, [], 
 ghost use Rattle.ham_lane.specs.Lanes.{numbered};
 ghost use Rattle.ham_resend.specs.Asking as asking;
 
-use ham_frame::{Frame, Frames, Ruling};
+use ham_frame::{Frame, Ruling};
 use ham_lists::NoMemory;
 use ham_syntax::Act;
 use ham_syntax::limits::{MAX_DUE, MAX_REQUESTS};
@@ -162,8 +162,8 @@ impl Group {
     }
 
     /// The lowest requests without a verdict.
-    fn due(&self, group: u8) -> Result<Frames, NoMemory>
-        ensures { IfOk result (λ frames. frames ≡ asking.due group self.now) }
+    fn due(&self, group: u8) -> Result<Vec<Frame>, NoMemory>
+        ensures { IfOk result (λ frames. frames.items ≡ asking.due group self.now) }
     {
         due_from(*self.made.allocator(), group, &self.made, self.settled)
     }
@@ -182,11 +182,11 @@ fn first_open(made: &[Ask], from: usize) -> usize
 }
 
 /// The lowest requests without a verdict; those before index `settled` have one.
-fn due_from(alloc: Global, group: u8, made: &[Ask], settled: usize) -> Result<Frames, NoMemory>
+fn due_from(alloc: Global, group: u8, made: &[Ask], settled: usize) -> Result<Vec<Frame>, NoMemory>
     requires { asking.IsGroup made.now settled }
-    ensures { IfOk result (λ frames. frames ≡ asking.due group made.now) }
+    ensures { IfOk result (λ frames. frames.items ≡ asking.due group made.now) }
 {
-    let mut frames = Frames::new(alloc);
+    let mut frames = Vec::new(alloc);
     let mut count = 0;
     for at in settled..made.len() {
         if count == MAX_DUE {
@@ -291,9 +291,9 @@ impl Asks {
     }
 
     /// The lowest requests to a group without a verdict, at most 16.
-    pub fn due(&self, group: u8) -> Result<Frames, NoMemory>
+    pub fn due(&self, group: u8) -> Result<Vec<Frame>, NoMemory>
         requires { group < length self.now }
-        ensures { IfOk result (λ frames. frames ≡ asking.due group (get_or self.now group [])) }
+        ensures { IfOk result (λ frames. frames.items ≡ asking.due group (get_or self.now group [])) }
     {
         let asks = &self.groups[group as usize];
         asks.due(group)

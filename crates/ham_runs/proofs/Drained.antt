@@ -85,7 +85,7 @@ module _ (x : Rules) (y : Setting) (setting : IsSetting x y) (sound : IsSound (m
       }
 
   exactly : (log : List Place) (p : Place) → IsClosed (meaning_by x) (constraints y) now log → In p (places_of ds) →
-      IsReadyByCounts (meaning_by x) (constraints y) now (λ c. c.number) log p ↔ ((In p log → ⊥) × ((z : Place) → Needs (meaning_by x) (constraints y) now p z → In z log))
+      IsReadyByCounts (meaning_by x) (constraints y) now (λ c. c.number) log p ↔ IsWaiting (meaning_by x) (constraints y) now log (places_of ds) p
   exactly log p closed decided =
       laws.ready_exactly (constraints y) now (λ c. c.number) kept.well kept.ordered (shares x y setting sound laws ds logs kept) kept.numbers log p closed decided
 
@@ -125,7 +125,7 @@ module _ (x : Rules) (y : Setting) (setting : IsSetting x y) (sound : IsSound (m
             within_counts x y setting ds logs kept w log (now.before (place_of c)) c.act.method at.counts (log_known log closed) (before_known c k) within m l
             (subst (λ z. y.depends z m ≡ true) method dep);
       }) in
-      record { came = k.delivered; new = both.0; needs = both.1 }
+      record { came = k.delivered; new = both.new; needs = both.needs }
 
   pub waits_ready : (w : ReplicaWords) (log : List Place) (p : Place) → IsMid w log → IsClosed (meaning_by x) (constraints y) now log →
       IsWaiting (meaning_by x) (constraints y) now log (places arrivals) p → (c : Call) × (place_of c ≡ p) × IsReadyHere y w c
@@ -138,7 +138,11 @@ module _ (x : Rules) (y : Setting) (setting : IsSetting x y) (sound : IsSound (m
       let k = known c found_here in
       let method : method_of (meaning_by x) now (place_of c) ≡ c.act.method = ap (λ (a : Act). a.method) k.act in
       let counts = (exactly log (place_of c) closed k.decided).1
-      (subst (λ z. (In z log → ⊥) × ((u : Place) → Needs (meaning_by x) (constraints y) now z u → In u log)) (sym place) (waits.new, waits.needs)) in (
+      (record {
+        came = k.decided;
+        new = λ j. waits.new (subst (λ z. In z log) place j);
+        needs = λ u need. waits.needs u (subst (λ z. Needs (meaning_by x) (constraints y) now z u) place need);
+      }) in (
         c,
         place,
         record {
@@ -170,7 +174,7 @@ module _ (x : Rules) (y : Setting) (setting : IsSetting x y) (sound : IsSound (m
       let waits = ready_waits w log c at closed ready in
       let k = known c (sym (at.kept_is (place_of c)) ∙ ready.kept) in
       let closed' : IsClosed (meaning_by x) (constraints y) now (log ++ place_of c ∷ []) =
-      ready_closed (meaning_by x) (constraints y) now log (place_of c) closed (record { decided = k.decided; new = waits.new; needs = waits.needs }) in
+      ready_closed (meaning_by x) (constraints y) now log (place_of c) closed (record { came = k.decided; new = waits.new; needs = waits.needs }) in
       let r = drained more settled (log ++ place_of c ∷ []) (mid_one w log c k.act at) closed' in
       let r' = subst (λ l. Drains (meaning_by x) (constraints y) now (places arrivals) (log ++ place_of c ∷ []) l × IsMid after l) (append_assoc log (place_of c ∷ []) (places rest)) r in (
         Next (place_of c) waits (λ p waits'. let d = waits_ready w log p at closed waits' in subst (λ (z : Place). c.lane ≤ z.lane) d.1 (least d.0 d.2)) r'.0,

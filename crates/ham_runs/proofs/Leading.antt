@@ -3,7 +3,7 @@ use Rattle.std.proofs.Common.{◌≡◌, ℕ, zero, suc, ◌≤◌, true, false,
 use Rattle.std.proofs.lemmas.Bool.{eqb-true, and_parts}
 use Rattle.ham_meaning.specs.OfObjects.{meaning}
 use Rattle.ham_laws.specs.Executions.{IsSound}
-use Rattle.ham_laws.specs.Constrained.{constraints_of}
+use Rattle.ham_laws.specs.Constrained.{constraints_of, IsPlanned}
 use Rattle.ham_plan.specs.Groups.{IsChain, IsLeastOf}
 use Rattle.ham_plan.specs.Plans.{IsPlan, conflicts, least_of}
 use Rattle.ham_laws.specs.Bank.{bank, withdrawals, deposit, withdraw}
@@ -12,7 +12,6 @@ use Rattle.ham_plan.proofs.Joining.{Joined-direct}
 use Rattle.ham_plan.proofs.Labelling.{among-within}
 use Rattle.ham_laws.proofs.Banking.{withdrawals_sound, bank_checked}
 use Rattle.ham_turns.specs.Settings.{Rules, setting_of}
-use Rattle.ham_runs.specs.Facts.{IsPlanned}
 use Rattle.ham_runs.specs.Next.{after_input, run_of}
 use Rattle.ham_runs.specs.Next.Input.{Issue, Deliver}
 use Rattle.ham_runs.specs.Story.{HasOutcomes}

@@ -22,5 +22,6 @@ pub mod Steps
 pub mod Objects
 pub mod Telling
 pub mod Leading
+pub mod OneLeading
 pub mod Slips
 pub mod Outcomes

@@ -8,7 +8,8 @@ use Rattle.ham_meaning.specs.Meaning.{IsOutcome, outcome_of}
 use Rattle.ham_meaning.specs.OfObjects.{meaning}
 use Rattle.ham_plan.specs.Plans.{Plan}
 use Rattle.ham_laws.proofs.Missing.{act-within}
-use Rattle.ham_runs.specs.Facts.{IsPlanned, Laws, IsGiven}
+use Rattle.ham_laws.specs.Constrained.{IsPlanned}
+use Rattle.ham_runs.specs.Facts.{Laws, IsGiven}
 use Rattle.ham_turns.specs.Settings.{setting_of}
 use Rattle.ham_turns.specs.Settings.{rules_of}
 use Rattle.ham_runs.proofs.PlanSettings.{KeepsRules, plan_setting}

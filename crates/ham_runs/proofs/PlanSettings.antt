@@ -13,7 +13,7 @@ use Rattle.ham_runs.specs.Facts.{IsSetting}
 use Rattle.ham_plan.proofs.Joining.{Joined-direct}
 use Rattle.ham_plan.proofs.Labelling.{among-within}
 use Rattle.ham_plan.proofs.PlanLanes.{group-within}
-use Rattle.ham_turns.proofs.PlanFacts.{share, one_lane, group_exists, lane_exists, slot_method, slot_lane, lane_slot, needed, needed_only}
+use Rattle.ham_plan.proofs.PlanFacts.{share, one_lane, group_exists, lane_exists, slot_method, slot_lane, lane_slot, needed, needed_only}
 
 -- what rules owe, whatever the plan is
 pub record KeepsRules (x : Rules) (methods : ℕ) : Type 0 where

@@ -111,7 +111,7 @@ module _ (x : Rules) (y : Setting) (setting : IsSetting x y) (sound : IsSound (m
       let short : length w.front ≡ n = let a = length-append w.front (w.last ∷ []) in omega arith in
       let known = calls_after (meaning_by x) (constraints y) e [] w.front before in
       let ready = (laws.ready_exactly (constraints y) e (λ c. c.number) kept.well kept.ordered (shares x y setting sound laws ds log kept) kept.numbers w.front w.last before last.decided).1
-      (λ k. last.new (inr k), λ z need. elim (last.needs z need) [ inl none ↦ absurd none | inr k ↦ k ]) in
+      (record { came = last.decided; new = λ k. last.new (inr k); needs = λ z need. elim (last.needs z need) [ inl none ↦ absurd none | inr k ↦ k ] }) in
       let count : count_by (of_lane e w.last.lane) w.front ≡ length w.front =
       count_each (of_lane e w.last.lane) w.front (λ z k. eq-eqb z.lane w.last.lane (one_lane z w.last (known z k) last.decided)) in
       let next = ready.next in

@@ -10,7 +10,7 @@ use Rattle.ham_plan.proofs.Lists.{true_or_false}
 use Rattle.ham_plan.proofs.Joining.{Joined-direct}
 use Rattle.ham_plan.proofs.Labelling.{among-within}
 use Rattle.ham_laws.proofs.Banking.{withdrawals_sound, bank_checked}
-use Rattle.ham_runs.specs.Facts.{IsPlanned}
+use Rattle.ham_laws.specs.Constrained.{IsPlanned}
 use Rattle.ham_runs.specs.Next.{after_input, run_of}
 use Rattle.ham_runs.specs.Next.Input.{Issue, Deliver, Tear, Tick}
 use Rattle.ham_turns.specs.Settings.{Rules, setting_of}

@@ -1,41 +1,20 @@
 -- What the laws of runs use of an object and of its plan.
---     IsPlanned           a plan is sound for a checked object
 --     IsSetting           what a setting says of methods, lanes and slots, and rules of acts
 --     Laws, IsGiven       the laws of coordination; all that the laws of runs rest on
---     SaysSame            two plans with the same tests on methods
-use Rattle.std.specs.Prelude.{◌≡◌, ◌≢◌, ◌↔◌, ℕ, ◌<◌, true, IsTrue, length}
+use Rattle.std.specs.Prelude.{◌≡◌, ◌≢◌, ◌↔◌, ℕ, ◌<◌, true, IsTrue}
 use Rattle.ham_syntax.specs.declared.act.Act.{Act}
-use Rattle.ham_syntax.specs.Objects.{Schema}
-use Rattle.ham_syntax.specs.Checked.{IsChecked}
 use Rattle.ham_state.specs.Content.{State}
 use Rattle.ham_meaning.specs.declared.outcome.Outcome.{Outcome}
 use Rattle.ham_meaning.specs.declared.outcome.Outcome.TheVariants as outcomes
 use Rattle.ham_meaning.specs.Relations.{Meaning}
-use Rattle.ham_meaning.specs.OfObjects.{meaning}
 use Rattle.ham_plan.specs.Lists.{In}
-use Rattle.ham_plan.specs.Plans.{Plan, IsPlan, conflicts, depends_on}
 use Rattle.ham_laws.specs.Executions.{Constraints, IsSound}
-use Rattle.ham_laws.specs.Constrained.{constraints_of}
 use Rattle.ham_laws.specs.Coordinated.{StatesAgree, CallsArePermissible, InvariantHolds}
 use Rattle.ham_laws.specs.Turns.{DecisionsKeep, DrainsKeep}
 use Rattle.ham_laws.specs.Lanes.{DecisionsKeepLanes, DrainsKeepLanes}
 use Rattle.ham_laws.specs.Drain.{DrainsReach}
 use Rattle.ham_laws.specs.Counts.{ReadyExactly}
 use Rattle.ham_turns.specs.Settings.{Rules, Setting, meaning_by, IsReplica}
-
--- the object is checked, and the plan has its methods and is sound for it
-pub record IsPlanned (o : Schema) (p : Plan) : Type 0 where
-  pub checked : IsChecked o
-  pub plan : IsPlan p
-  pub methods : p.methods ≡ length o.methods
-  pub sound : IsSound (meaning o) (constraints_of p)
-
--- plans with the same methods, replicas, conflicts and dependencies
-pub record SaysSame (p q : Plan) : Type 0 where
-  pub methods : p.methods ≡ q.methods
-  pub replicas : p.replicas ≡ q.replicas
-  pub conflict : (m n : ℕ) → conflicts p m n ≡ conflicts q m n
-  pub depends : (m n : ℕ) → depends_on p m n ≡ depends_on q m n
 
 -- a setting's two tests on methods, as the laws of coordination see them
 abbrev pub constraints : Setting → Constraints

@@ -4,7 +4,9 @@ ghost use Rattle.std.specs.Prelude.{◌≡◌};
 ghost use Rattle.ham_syntax.specs.Objects.{Schema};
 ghost use Rattle.ham_plan.specs.Plans.{Plan, IsPlan, IsSingle};
 ghost use Rattle.ham_turns.specs.Settings.{rules_of, setting_of};
-ghost use Rattle.ham_runs.specs.Facts.{IsPlanned, IsGiven, SaysSame};
+ghost use Rattle.ham_laws.specs.Constrained.{IsPlanned};
+ghost use Rattle.ham_plan.specs.Same.{SaysSame};
+ghost use Rattle.ham_runs.specs.Facts.{IsGiven};
 ghost use Rattle.ham_runs.specs.Claims.{RunsAreFaithful, FramesAreTaken, LanesHaveRoom, NotesFollow, InputsGiveRuns, OneRun};
 ghost use Rattle.ham_runs.specs.Claims.{TurnsRefine, ReadyByNeeds, RunsAreSettled, TornAndTicksLeave, LogsFollow};
 

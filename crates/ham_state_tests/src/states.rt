@@ -6,14 +6,14 @@ ghost use Rattle.ham_state.specs.Content.{opening};
 ghost use Rattle.ham_state.specs.Steps.{after_steps, IsWithin};
 
 use ham_check::{Raw, check_object};
-use ham_state::{Amount, Fact, Net, Row, State, Step};
+use ham_state::{Net, Row, State, Step};
 use ham_syntax::{Items, Term, Terms};
 use std::alloc::Global;
 use std::test::Fail;
 
 /// The opening state of an object of nothing.
 fn opening_state(alloc: Global) -> Result<State, Fail>
-    ensures { IfOk result (λ state. state ≡ opening) }
+    ensures { IfOk result (λ state. state.content ≡ opening) }
 {
     let raw = Raw {
         relations: Items::new(alloc),
@@ -29,10 +29,10 @@ fn opening_state(alloc: Global) -> Result<State, Fail>
 fn made(alloc: Global, steps: &[Step]) -> Result<State, Fail>
     requires few { length steps.now ≤ 8 }
     requires small { AllByRecursion (IsWithin (2 ^ 50)) steps.now }
-    ensures { IfOk result (λ state. state ≡ after_steps steps.now opening) }
+    ensures { IfOk result (λ state. state.content ≡ after_steps steps.now opening) }
 {
     let mut state = opening_state(alloc)?;
-    state.apply_all(steps)?;
+    state.apply_net(&Net::new(steps).unwrap())?;
     Ok(state)
 }
 
@@ -69,13 +69,6 @@ fn delete(relation: u8, pattern: [Term; 2]) -> Step
     }
 }
 
-fn fact(relation: u8, ids: [u64; 2]) -> Fact {
-    Fact {
-        relation,
-        row: row(ids),
-    }
-}
-
 #[test]
 fn steps_are_taken_in_order(rt: HostRuntime) -> Result<(), Fail> {
     let mut state = opening_state(rt.alloc())?;
@@ -93,7 +86,6 @@ fn steps_are_taken_in_order(rt: HostRuntime) -> Result<(), Fail> {
     assert!(rt; !state.has(1, &one_column));
     assert_eq!(rt; state.value(0, 8), -20);
     assert_eq!(rt; state.value(0, 9), 0);
-    assert_eq!(rt; state.amounts().len(), 1);
     Ok(())
 }
 
@@ -109,15 +101,13 @@ fn rows_come_out_ascending(rt: HostRuntime) -> Result<(), Fail> {
         insert(1, [4, 7]),
     ];
     let state = made(rt.alloc(), &steps)?;
-    let expected = [
-        fact(1, [4, 7]),
-        fact(1, [6, 2]),
-        fact(1, [6, 3]),
-        fact(1, [9, 1]),
-    ];
-    assert_eq!(rt; state.rows(1), expected.as_slice());
-    assert_eq!(rt; state.rows(2), [fact(2, [5, 5])].as_slice());
-    assert_eq!(rt; state.rows(3).len(), 0);
+    let expected = [row([4, 7]), row([6, 2]), row([6, 3]), row([9, 1])];
+    assert_eq!(rt; state.rows(rt.alloc(), 1)?.items(), expected.as_slice());
+    assert_eq!(rt;
+        state.rows(rt.alloc(), 2)?.items(),
+        [row([5, 5])].as_slice()
+    );
+    assert!(rt; state.rows(rt.alloc(), 3)?.items().is_empty());
     assert!(rt; state.has(1, &terms([Term::Const(9), Term::Const(1)])));
     assert!(rt; !state.has(2, &terms([Term::Const(9), Term::Const(1)])));
     assert!(rt; state.has(0, &terms([Term::Any, Term::Const(8)])));
@@ -137,13 +127,19 @@ fn deletes_take_what_they_match(rt: HostRuntime) -> Result<(), Fail> {
         delete(1, [Term::Const(9), Term::Const(2)]),
     ];
     let state = made(rt.alloc(), &steps)?;
-    assert_eq!(rt; state.rows(1), [fact(1, [4, 7])].as_slice());
-    assert_eq!(rt; state.rows(2), [fact(2, [6, 3])].as_slice());
+    assert_eq!(rt;
+        state.rows(rt.alloc(), 1)?.items(),
+        [row([4, 7])].as_slice()
+    );
+    assert_eq!(rt;
+        state.rows(rt.alloc(), 2)?.items(),
+        [row([6, 3])].as_slice()
+    );
     Ok(())
 }
 
 #[test]
-fn amounts_come_out_ascending_and_never_0(rt: HostRuntime) -> Result<(), Fail> {
+fn amounts_are_sums_at_their_keys(rt: HostRuntime) -> Result<(), Fail> {
     let steps = [
         change(3, 1, 5),
         change(0, 9, 2),
@@ -153,21 +149,10 @@ fn amounts_come_out_ascending_and_never_0(rt: HostRuntime) -> Result<(), Fail> {
         change(0, 9, -3),
     ];
     let state = made(rt.alloc(), &steps)?;
-    let expected = [
-        Amount {
-            counter: 0,
-            key: 4,
-            number: 7,
-        },
-        Amount {
-            counter: 0,
-            key: 9,
-            number: -1,
-        },
-    ];
-    assert_eq!(rt; state.amounts(), expected.as_slice());
     assert_eq!(rt; state.value(3, 1), 0);
     assert_eq!(rt; state.value(0, 9), -1);
+    assert_eq!(rt; state.value(0, 4), 7);
+    assert!(rt; state.equal(&made(rt.alloc(), &[change(0, 9, -1), change(0, 4, 7)])?));
     Ok(())
 }
 

@@ -1,6 +1,6 @@
 -- Derived plans are sound.
-use Rattle.std.proofs.Common.{◌≡◌, ◌⊎◌, ℕ, ◌<◌, ◌≤◌, Bool, true, false, not, ◌&&◌, ◌||◌, leb, ltb, List, length, inl, inr, refl, sym, ap, subst, ◌∙◌, true≢false, arith, lt-ltb}
-use Rattle.std.proofs.lemmas.Bool.{leb-true, leb-false, ltb-true, ltb-false}
+use Rattle.std.proofs.Common.{◌≡◌, ◌⊎◌, ℕ, ◌<◌, Bool, true, false, not, ◌&&◌, ◌||◌, ltb, List, length, inl, inr, refl, sym, ap, subst, ◌∙◌, true≢false, arith, lt-ltb}
+use Rattle.std.proofs.lemmas.Bool.{ltb-true, ltb-false}
 use Rattle.ham_syntax.specs.Objects.{Schema}
 use Rattle.ham_syntax.specs.Checked.{IsChecked}
 use Rattle.ham_meaning.specs.Relations.{StateCommute, InvariantSufficient, PermissibleRight, PermissibleLeft}
@@ -8,10 +8,12 @@ use Rattle.ham_meaning.specs.OfObjects.{meaning}
 use Rattle.ham_rules.specs.declared.claim.Claim.TheVariants.{Sc, Is, Pr, Pl}
 use Rattle.ham_rules.specs.Derivations.{is_derivable}
 use Rattle.ham_rules.proofs.Derived.{computed-holds}
+use Rattle.ham_rules.proofs.Turned.{computed_turned}
 use Rattle.ham_laws.specs.Executions.{IsSound}
 use Rattle.ham_plan.specs.Plans.{Plan, IsPlan, among, conflicts, depends_on}
 use Rattle.ham_laws.specs.Constrained.{constraints_of}
 use Rattle.ham_plan.specs.Grids.{cell}
+use Rattle.ham_plan.specs.Same.{SaysSame}
 use Rattle.ham_laws.proofs.Missing.{IsActOf-within}
 use Rattle.ham_tables.specs.DerivedPlans.{stays, concur, conflict_of, depends_of, Derived, IsDerived, IsDerivedPlan}
 
@@ -28,45 +30,24 @@ not-false true e = refl
 not-false false e = absurd (true≢false e)
 
 -- ---- conflict is symmetric
-least-first : (o : Schema) (m n : ℕ) → m ≤ n → conflict_of o m n ≡ not (concur o m n)
+exchanged : (a b c d : Bool) → a ≡ b → (a && (c && d)) ≡ (b && (d && c))
+exchanged a b c d e = rw e (ap (λ (x : Bool). b && x) (turn c d))
+  where
+    turn : (x y : Bool) → (x && y) ≡ (y && x)
+    turn true true = refl
+    turn true false = refl
+    turn false true = refl
+    turn false false = refl
+
+pub conflict_symmetric : (o : Schema) (m n : ℕ) → IsChecked o → conflict_of o m n ≡ conflict_of o n m
 unfolding conflict_of
-least-first o m n h = rw (le-leb m n h) refl
-  where
-    le-leb : (a b : ℕ) → a ≤ b → leb a b ≡ true
-    le-leb a b h = by (leb a b) refl
-      where
-        by : (t : Bool) → leb a b ≡ t → t ≡ true
-        by true e = refl
-        by false e = let more = leb-false a b e in absurd (omega arith)
+conflict_symmetric o m n checked = ap not (exchanged (is_derivable o (Sc m n)) (is_derivable o (Sc n m)) (stays o m n) (stays o n m) (computed_turned o m n checked))
 
-least-last : (o : Schema) (m n : ℕ) → n < m → conflict_of o m n ≡ not (concur o n m)
-unfolding conflict_of
-least-last o m n h = rw (lt-leb m n h) refl
-  where
-    lt-leb : (a b : ℕ) → b < a → leb a b ≡ false
-    lt-leb a b h = by (leb a b) refl
-      where
-        by : (t : Bool) → leb a b ≡ t → t ≡ false
-        by false e = refl
-        by true e = let less = leb-true a b e in absurd (omega arith)
-
-pub conflict_symmetric : (o : Schema) (m n : ℕ) → conflict_of o m n ≡ conflict_of o n m
-conflict_symmetric o m n = by (ltb m n) (ltb n m) refl refl
-  where
-    by : (a b : Bool) → ltb m n ≡ a → ltb n m ≡ b → conflict_of o m n ≡ conflict_of o n m
-    by true b x y = let h = ltb-true m n x in least-first o m n (omega arith) ∙ sym (least-last o n m h)
-    by false true x y = let h = ltb-true n m y in least-last o m n h ∙ sym (least-first o n m (omega arith))
-    by false false x y =
-        let h = ltb-false m n x in
-        let k = ltb-false n m y in
-        let same : m ≡ n = omega arith in
-        rw same refl
-
-pub among_symmetric : (o : Schema) (methods : ℕ) (rows : List (List Bool)) → ((m n : ℕ) → m < methods → n < methods → cell rows m n ≡ conflict_of o m n) → (m n : ℕ) → among methods rows m n ≡ among methods rows n m
-among_symmetric o methods rows is m n = by (ltb m methods) (ltb n methods) refl refl
+pub among_symmetric : (o : Schema) → IsChecked o → (methods : ℕ) (rows : List (List Bool)) → ((m n : ℕ) → m < methods → n < methods → cell rows m n ≡ conflict_of o m n) → (m n : ℕ) → among methods rows m n ≡ among methods rows n m
+among_symmetric o checked methods rows is m n = by (ltb m methods) (ltb n methods) refl refl
   where
     by : (a b : Bool) → ltb m methods ≡ a → ltb n methods ≡ b → ((a && b) && cell rows m n) ≡ ((b && a) && cell rows n m)
-    by true true x y = is m n (ltb-true m methods x) (ltb-true n methods y) ∙ (conflict_symmetric o m n ∙ sym (is n m (ltb-true n methods y) (ltb-true m methods x)))
+    by true true x y = is m n (ltb-true m methods x) (ltb-true n methods y) ∙ (conflict_symmetric o m n checked ∙ sym (is n m (ltb-true n methods y) (ltb-true m methods x)))
     by true false x y = refl
     by false true x y = refl
     by false false x y = refl
@@ -90,15 +71,8 @@ module _ (o : Schema) (checked : IsChecked o) where
       (computed-holds o (Sc m n) checked first.0, stays-holds m n rest.0, stays-holds n m rest.1)
 
   pub concurs : (m n : ℕ) → conflict_of o m n ≡ false → StateCommute (meaning o) m n × (InvariantSufficient (meaning o) m ⊎ PermissibleRight (meaning o) m n)
-  concurs m n apart = by (leb m n) refl
-    where
-      by : (t : Bool) → leb m n ≡ t → StateCommute (meaning o) m n × (InvariantSufficient (meaning o) m ⊎ PermissibleRight (meaning o) m n)
-      by true e =
-          let parts = concur-parts m n (not-false (concur o m n) (sym (least-first o m n (leb-true m n e)) ∙ apart)) in
-          (parts.0, parts.1)
-      by false e =
-          let parts = concur-parts n m (not-false (concur o n m) (sym (least-last o m n (leb-false m n e)) ∙ apart)) in
-          (λ a b s of_m of_n well. sym (parts.0 b a s of_n of_m well), parts.2)
+  unfolding conflict_of
+  concurs m n apart = let parts = concur-parts m n (not-false (concur o m n) apart) in (parts.0, parts.1)
 
   pub independent : (m n : ℕ) → depends_of o m n ≡ false → InvariantSufficient (meaning o) m ⊎ PermissibleLeft (meaning o) m n
   unfolding depends_of
@@ -139,3 +113,23 @@ IsDerivedPlan-made o d p is methods conflict depends plan =
       conflict = λ m n h k. among_is p.methods p.conflict m n (subst (λ (q : ℕ). m < q) (sym all) h) (subst (λ (q : ℕ). n < q) (sym all) k) ∙ (ap (λ (rows : List (List Bool)). cell rows m n) conflict ∙ is.conflict m n h k);
       depends = λ m n h k. among_is p.methods p.depends m n (subst (λ (q : ℕ). m < q) (sym all) h) (subst (λ (q : ℕ). n < q) (sym all) k) ∙ (ap (λ (rows : List (List Bool)). cell rows m n) depends ∙ is.depends m n h k);
     }
+
+-- plans that are derived from one object say the same
+pub derived_same : (o : Schema) (p q : Plan) → IsDerivedPlan o p → IsDerivedPlan o q → p.replicas ≡ q.replicas → SaysSame p q
+derived_same o p q is_p is_q replicas = record {
+  methods = methods;
+  replicas = replicas;
+  conflict = λ m n. one p.conflict q.conflict m n (λ h k. is_p.conflict m n h k ∙ sym (is_q.conflict m n h k));
+  depends = λ m n. one p.depends q.depends m n (λ h k. is_p.depends m n h k ∙ sym (is_q.depends m n h k));
+}
+  where
+    methods : p.methods ≡ q.methods
+    methods = is_p.methods ∙ sym is_q.methods
+
+    one : (a b : List (List Bool)) (m n : ℕ) → (m < length o.methods → n < length o.methods → among p.methods a m n ≡ among q.methods b m n) → among p.methods a m n ≡ among q.methods b m n
+    one a b m n inside = by (ltb m (length o.methods)) (ltb n (length o.methods)) refl refl
+      where
+        by : (x y : Bool) → ltb m (length o.methods) ≡ x → ltb n (length o.methods) ≡ y → among p.methods a m n ≡ among q.methods b m n
+        by true true h k = inside (ltb-true m _ h) (ltb-true n _ k)
+        by false y h k = rw (is_p.methods, is_q.methods, h) refl
+        by true false h k = rw (is_p.methods, is_q.methods, h, k) refl

@@ -1,3 +1,4 @@
 pub mod Deriving
 pub mod Filling
 pub mod Written
+pub mod OneText

@@ -3,7 +3,7 @@
 --     depends_of        a method depends on another: the rules don't derive that it needn't
 --     Derived           an object's conflicts and dependencies, as tables
 --     IsDerivedPlan     a plan of these conflicts and dependencies
-use Rattle.std.specs.Prelude.{◌≡◌, ℕ, ◌<◌, ◌≤◌, nat_le, Bool, List, not, ◌&&◌, ◌||◌, if◌then◌else◌, length}
+use Rattle.std.specs.Prelude.{◌≡◌, ℕ, ◌<◌, ◌≤◌, Bool, List, not, ◌&&◌, ◌||◌, length}
 use Rattle.ham_syntax.specs.Objects.{Schema}
 use Rattle.ham_rules.specs.declared.claim.Claim.TheVariants.{Sc, Is, Pr, Pl}
 use Rattle.ham_rules.specs.Derivations.{is_derivable}
@@ -19,9 +19,9 @@ stays o m n = is_derivable o (Is m) || is_derivable o (Pr m n)
 abbrev pub concur : Schema → ℕ → ℕ → Bool
 concur o m n = is_derivable o (Sc m n) && (stays o m n && stays o n m)
 
--- the two methods, the first in file order first, don't concur
+-- the two methods don't concur
 unfoldable pub conflict_of : Schema → ℕ → ℕ → Bool
-conflict_of o m n = if nat_le m n then not (concur o m n) else not (concur o n m)
+conflict_of o m n = not (concur o m n)
 
 -- an act of m isn't derived to have been permissible before an act of n
 unfoldable pub depends_of : Schema → ℕ → ℕ → Bool

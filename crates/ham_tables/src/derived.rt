@@ -31,11 +31,7 @@ fn concur(object: &Object, m: u8, n: u8) -> bool
 fn conflict(object: &Object, m: u8, n: u8) -> bool
     ensures { result ≡ derived_plans.conflict_of object.now m n }
 {
-    if m <= n {
-        !concur(object, m, n)
-    } else {
-        !concur(object, n, m)
-    }
+    !concur(object, m, n)
 }
 
 #[tactic(auto, unfolding(crate::specs::DerivedPlans::depends_of))]

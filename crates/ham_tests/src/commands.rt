@@ -30,7 +30,7 @@ const REGISTER: &[u8] =
 
 /// What words without a shape are told.
 const USAGE: &[u8] =
-    b"usage: hamsaz tables OBJECT N; derive OBJECT sc or pr or pl M N; derive OBJECT is M; check OBJECT FILE; normal OBJECT; replay OBJECT SCHEDULE; bulk OBJECT SEED N ROUNDS; script OBJECT SEED N ROUNDS; node OBJECT ME BASES\n";
+    b"usage: hamsaz tables OBJECT N; derive OBJECT sc or pr or pl M N; derive OBJECT is M; check OBJECT FILE; normal OBJECT; replay OBJECT SCHEDULE; bulk OBJECT SEED N ROUNDS; script OBJECT SEED N ROUNDS; record OBJECT SCHEDULE; audit OBJECT FILE; example OBJECT sc or pr or pl M N; example OBJECT is M; node OBJECT ME BASES\n";
 
 /// Objects and their plain forms.
 const NORMAL: [Case; 2] = [
@@ -251,6 +251,45 @@ const DERIVED: [Case; 7] = [
     ),
 ];
 
+/// Claims of which a case fails, that are derivable, of which none fails, and that name no method.
+const SHOWN: [Case; 5] = [
+    (
+        &[b"example", b"bank", b"pr", b"withdraw", b"withdraw"],
+        BANK,
+        b"",
+        Exit::Done,
+        b"example pr withdraw withdraw\nvalue balance 0 1\nm withdraw 1\nn withdraw 1\nshows invariant 0\nend\n",
+    ),
+    (
+        &[b"example", b"bank", b"sc", b"write", b"write"],
+        REGISTER,
+        b"",
+        Exit::Done,
+        b"example sc write write\nm write 1 1\nn write 1 2\nshows unequal\nend\n",
+    ),
+    (
+        &[b"example", b"bank", b"is", b"deposit"],
+        BANK,
+        b"",
+        Exit::Done,
+        b"derivable\n",
+    ),
+    (
+        &[b"example", b"bank", b"is", b"pass"],
+        b"hamsaz object 1\ncounter balance plain\ninvariant low balance 0\nmethod pass\nparam a amount\neffect add balance a\neffect subtract balance a\nend\n",
+        b"",
+        Exit::Done,
+        b"none shown\n",
+    ),
+    (
+        &[b"example", b"bank", b"pl", b"withdraw", b"nobody"],
+        BANK,
+        b"",
+        Exit::DerivationRefused,
+        b"derivation refused: unknown name\n",
+    ),
+];
+
 /// Tables of objects.
 const TABLES: [Case; 5] = [
     (
@@ -353,11 +392,16 @@ fn derive_writes_a_derivation_or_the_first_obligation_without_a_reason(
 }
 
 #[test]
+fn example_writes_a_failing_case_or_why_there_is_none(rt: HostRuntime) -> Result<(), Fail> {
+    end_so(&rt, rt.alloc(), &SHOWN)
+}
+
+#[test]
 fn tables_writes_the_derived_plan(rt: HostRuntime) -> Result<(), Fail> {
     end_so(&rt, rt.alloc(), &TABLES)
 }
 
-const SHAPELESS: [&[&[u8]]; 22] = [
+const SHAPELESS: [&[&[u8]]; 24] = [
     &[],
     &[b""],
     &[b"replay"],
@@ -373,6 +417,8 @@ const SHAPELESS: [&[&[u8]]; 22] = [
     &[b"derive", b"bank", b"xx", b"deposit", b"withdraw"],
     &[b"derive", b"bank", b"is", b"9lives"],
     &[b"derive", b"bank", b"sc", b"deposit", b""],
+    &[b"example", b"bank", b"is", b"deposit", b"withdraw"],
+    &[b"example", b"bank", b"pr", b"deposit"],
     &[b"tables", b"bank", b"0"],
     &[b"tables", b"bank", b"9"],
     &[b"tables", b"bank", b"03"],
@@ -387,10 +433,11 @@ fn words_of_no_shape_give_the_usage_line(rt: HostRuntime) -> Result<(), Fail> {
     all_end_so(&rt, rt.alloc(), &SHAPELESS, Exit::Usage, USAGE)
 }
 
-const OF_ABSENT_FILES: [&[&[u8]]; 5] = [
+const OF_ABSENT_FILES: [&[&[u8]]; 6] = [
     &[b"replay", b"absent", b"plan"],
     &[b"replay", b"bank", b"absent"],
     &[b"derive", b"absent", b"is", b"nobody"],
+    &[b"example", b"absent", b"is", b"nobody"],
     &[b"check", b"bank", b"absent"],
     &[b"tables", b"absent", b"3"],
 ];

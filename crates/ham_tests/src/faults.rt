@@ -12,7 +12,7 @@ const SCHEDULE: &[u8] =
     b"replicas 1\nissue 1 deposit 5\nissue 1 withdraw 7\nissue 1 withdraw 5\nshow 1 balance\n";
 
 const TEXT: &[u8] =
-    b"replicas 1\napplied +0:1\nimpermissible invariant 0\napplied +0:2\nvalue 0\nend\n";
+    b"replicas 1\napplied +1:1\nimpermissible invariant 0\napplied +0:1\nvalue 0\nend\n";
 
 /// The exit of the run, and what was taken, where these calls of the shelf and the sink fail.
 fn run_failing(alloc: Global, most: usize, fetch: u64, put: u64) -> Result<(Exit, MemSink), Fail>

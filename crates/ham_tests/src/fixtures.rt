@@ -14,7 +14,7 @@ pub const BANK: &[u8] =
 
 /// A shelf that holds an object named `bank` and a schedule named `plan`.
 pub fn shelf_of(alloc: Global, object: &[u8], schedule: &[u8]) -> Result<MemShelf, Fail>
-    ensures { IfOk result (λ shelf. shelf ≡ record { files = record { name = codes "bank"; bytes = object.now } ∷ record { name = codes "plan"; bytes = schedule.now } ∷ []; calls = 0; failing = []; faults = 0 }) }
+    ensures { IfOk result (λ shelf. shelf ≡ record { files = record { name = codes "bank"; bytes = object.now } ∷ record { name = codes "plan"; bytes = schedule.now } ∷ []; sought = []; calls = 0; failing = []; faults = 0 }) }
 {
     let mut shelf = MemShelf::new(alloc);
     shelf.add(b"bank", object)?;

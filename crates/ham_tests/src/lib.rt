@@ -13,10 +13,8 @@ mod limits;
 #[cfg(test)]
 mod meanings;
 #[cfg(test)]
-mod replays;
+mod refused_lines;
 #[cfg(test)]
 mod runs;
 #[cfg(test)]
 mod whole_objects;
-#[cfg(test)]
-mod worlds;

@@ -29,12 +29,14 @@ fn a_lane_takes_65536_calls_and_no_more(rt: HostRuntime) -> Result<(), Fail> {
     assert_eq!(rt; exit, Exit::Done);
     assert!(rt;
         sink.taken()
-            .ends_with(b"applied +0:65535\napplied +0:65536\nend\n")
+            .ends_with(b"applied +1:65535\napplied +1:65536\nend\n")
     );
-    schedule.extend_from_slice(b"show 1 balance\nissue 1 withdraw 1\nshow 1 balance\n")?;
+    schedule.extend_from_slice(
+        b"show 1 balance\nissue 1 withdraw 131072\nissue 1 deposit 1\nshow 1 balance\n",
+    )?;
     let (exit, sink) = replay_of(rt.alloc(), BANK, &schedule, 2_000_000)?;
     assert_eq!(rt; exit, Exit::ScheduleRefused);
-    let last = b"applied +0:65536\nvalue 131072\nrefused line 65539: lane full\n";
+    let last = b"applied +1:65536\nvalue 131072\napplied +0:1\nrefused line 65540: lane full\n";
     assert!(rt; sink.taken().ends_with(last));
     Ok(())
 }

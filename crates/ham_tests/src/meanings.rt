@@ -3,7 +3,7 @@
 use crate::fixtures::BANK;
 use ham_meaning::{Outcome, apply, invariant_holds, net, permissible};
 use ham_objfile::read;
-use ham_state::{Amount, Net, State, Step};
+use ham_state::{Net, State, Step};
 use ham_syntax::{Act, Args};
 use std::test::Fail;
 
@@ -74,12 +74,8 @@ fn a_net_is_applied_whole(rt: HostRuntime) -> Result<(), Fail> {
     ];
     let net = Net::new(&steps).unwrap();
     state.apply_net(&net)?;
-    let left = Amount {
-        counter: 0,
-        key: 1,
-        number: -4,
-    };
-    assert_eq!(rt; state.amounts(), [left].as_slice());
+    assert_eq!(rt; state.value(0, 1), -4);
+    assert_eq!(rt; state.value(0, 3), 0);
     assert_eq!(rt; invariant_holds(&bank, &state), Outcome::Invariant(0));
     Ok(())
 }

@@ -49,7 +49,7 @@ fn a_student_is_enrolled_in_a_course_that_there_is(rt: HostRuntime) -> Result<()
         rt.alloc(),
         COURSES,
         b"replicas 1\nissue 1 enroll 7 3\nissue 1 addStudent 7\nissue 1 enroll 7 3\nissue 1 addCourse 3\nissue 1 enroll 7 3\nissue 1 removeCourse 3\nrows 1 enrolled\nissue 1 leave 7\nissue 1 removeCourse 3\nrows 1 enrolled\nissue 1 begin 8 4\nrows 1 course\n",
-        b"replicas 1\nimpermissible invariant 0\napplied +0:1\nimpermissible invariant 1\napplied +0:2\napplied +0:3\nimpermissible invariant 1\nrows 1\n7 3\napplied +0:4\napplied +0:5\nrows 0\napplied +0:6\nrows 1\n4\nend\n",
+        b"replicas 1\nimpermissible invariant 0\napplied +1:1\nimpermissible invariant 1\napplied +0:1\napplied +0:2\nimpermissible invariant 1\nrows 1\n7 3\napplied +0:3\napplied +0:4\nrows 0\napplied +0:5\nrows 1\n4\nend\n",
     )
 }
 
@@ -60,33 +60,41 @@ fn a_stock_is_kept_for_each_member(rt: HostRuntime) -> Result<(), Fail> {
         rt.alloc(),
         STOCK,
         b"replicas 1\nissue 1 fill 5 60\nissue 1 join 5\nissue 1 join 5\nissue 1 fill 5 60\nissue 1 fill 5 41\nissue 1 fill 5 40\nshow 1 stock 5\nshow 1 stock 6\nshow 1 filled\nissue 1 take 5 101\nissue 1 close\nissue 1 take 5 100\nissue 1 leave 6\nissue 1 leave 5\nissue 1 close\nrows 1 member\nshow 1 filled\n",
-        b"replicas 1\nimpermissible guard 0\napplied +0:1\nimpermissible guard 0\napplied +0:2\nimpermissible invariant 1\napplied +0:3\nvalue 100\nvalue 0\nvalue 100\nimpermissible guard 0\nimpermissible guard 0\napplied +0:4\nimpermissible guard 1\napplied +0:5\napplied +0:6\nrows 0\nvalue 99\nend\n",
+        b"replicas 1\nimpermissible guard 0\napplied +0:1\nimpermissible guard 0\napplied +0:2\nimpermissible invariant 1\napplied +0:3\nvalue 100\nvalue 0\nvalue 100\nimpermissible guard 0\nimpermissible guard 0\napplied +1:1\nimpermissible guard 1\napplied +0:4\napplied +0:5\nrows 0\nvalue 99\nend\n",
     )
 }
 
-/// Lines that have no built shape with names of the stock.
-const NOT_YET: [&[u8]; 9] = [
-    b"replicas 1\nshow 1 stock\n",
-    b"replicas 1\nshow 1 stock 5 5\n",
-    b"replicas 1\nshow 1 stock x\n",
-    b"replicas 1\nshow 1 stock 18446744073709551616\n",
-    b"replicas 1\nshow 1 filled 0\n",
-    b"replicas 1\nshow 1 member 5\n",
-    b"replicas 1\nrows 1 stock\n",
-    b"replicas 1\nrows 1 member 5\n",
-    b"replicas 1\nrows 2 member\n",
+/// Lines of the stock that are refused, each for its reason.
+const REFUSED: [(&[u8], &[u8]); 9] = [
+    (b"replicas 1\nshow 1 stock\n", b"bad key"),
+    (b"replicas 1\nshow 1 stock 5 5\n", b"not a line"),
+    (b"replicas 1\nshow 1 stock x\n", b"not a line"),
+    (
+        b"replicas 1\nshow 1 stock 18446744073709551616\n",
+        b"not a line",
+    ),
+    (b"replicas 1\nshow 1 filled 0\n", b"bad key"),
+    (b"replicas 1\nshow 1 member 5\n", b"unknown name"),
+    (b"replicas 1\nrows 1 stock\n", b"unknown name"),
+    (b"replicas 1\nrows 1 member 5\n", b"not a line"),
+    (b"replicas 1\nrows 2 member\n", b"no such replica"),
 ];
 
-fn are_not_yet(rt: &impl Abort, alloc: Global, schedules: &[&[u8]]) -> Result<(), Fail> {
-    for schedule in schedules {
-        let (exit, sink) = replay_of(alloc, STOCK, schedule, 1000)?;
-        assert!(rt; exit == Exit::ScheduleRefused);
-        assert!(rt; sink.taken() == b"replicas 1\nrefused line 2: not yet\n".as_slice());
-    }
+fn is_refused(rt: &impl Abort, alloc: Global, schedule: &[u8], why: &[u8]) -> Result<(), Fail> {
+    let (exit, sink) = replay_of(alloc, STOCK, schedule, 1000)?;
+    let mut text = Vec::new(alloc);
+    text.extend_from_slice(b"replicas 1\nrefused line 2: ")?;
+    text.extend_from_slice(why)?;
+    text.push(b'\n')?;
+    assert!(rt; exit == Exit::ScheduleRefused);
+    assert!(rt; sink.taken() == text.as_slice());
     Ok(())
 }
 
 #[test]
-fn lines_of_no_built_shape_are_not_yet(rt: HostRuntime) -> Result<(), Fail> {
-    are_not_yet(&rt, rt.alloc(), &NOT_YET)
+fn a_line_is_refused_by_what_the_object_has(rt: HostRuntime) -> Result<(), Fail> {
+    for (schedule, why) in REFUSED {
+        is_refused(&rt, rt.alloc(), schedule, why)?;
+    }
+    Ok(())
 }

@@ -15,12 +15,12 @@ use Rattle.ham_check.specs.declared.raw.RawMethod.{RawMethod}
 use Rattle.ham_check.specs.declared.raw.Raw.{Raw}
 use Rattle.ham_forms.specs.declared.fault.FileFault.{FileFault}
 use Rattle.ham_forms.specs.declared.fault.FileFault.TheVariants.{NotUtf8, NotToml, UnknownKey, MissingKey, BadValue}
-use Rattle.ham_forms.specs.declared.words.Rule.{Rule}
-use Rattle.ham_forms.specs.declared.words.Rule.TheVariants as rules_of
+use Rattle.ham_forms.specs.declared.words.InvariantKind.{InvariantKind}
+use Rattle.ham_forms.specs.declared.words.InvariantKind.TheVariants as kinds
 use Rattle.ham_toml.specs.declared.keys.Form.{Form}
 use Rattle.ham_toml.specs.declared.keys.Form.TheVariants as forms
 use Rattle.ham_forms.specs.Outcomes.{◌>>=◌}
-use Rattle.ham_forms.specs.Words.{kind_of, verb_of, rule_of, name_of, term_of}
+use Rattle.ham_forms.specs.Words.{kind_of, verb_of, invariant_kind_of, name_of, term_of}
 
 -- ---- keys
 
@@ -170,17 +170,17 @@ high_in ms = do
   limit ← needed (codes "limit") as_integer ms
   Ok (High counter limit)
 
-abbrev pub ruled_in : Rule → Members → Result RawInvariant FileFault
-ruled_in rules_of.Reference ms = reference_in ms
-ruled_in rules_of.Unique ms = unique_in ms
-ruled_in rules_of.Low ms = low_in ms
-ruled_in rules_of.High ms = high_in ms
+abbrev pub by_kind_in : InvariantKind → Members → Result RawInvariant FileFault
+by_kind_in kinds.Reference ms = reference_in ms
+by_kind_in kinds.Unique ms = unique_in ms
+by_kind_in kinds.Low ms = low_in ms
+by_kind_in kinds.High ms = high_in ms
 
 -- the kind comes first, since it says which keys are listed
 unfoldable pub invariant_in : Members → Result RawInvariant FileFault
 invariant_in ms = do
-  rule ← needed (codes "kind") (word_in rule_of) ms
-  ruled_in rule ms
+  kind ← needed (codes "kind") (word_in invariant_kind_of) ms
+  by_kind_in kind ms
 
 unfoldable pub method_in : Members → Result RawMethod FileFault
 method_in ms = do

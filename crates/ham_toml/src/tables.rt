@@ -4,13 +4,13 @@ ghost use Rattle.std.specs.Prelude.{codes, false, []};
 ghost use Rattle.toml.specs.Data.{as_bool, as_integer};
 ghost use Rattle.toml.specs.View.{table_view};
 ghost use Rattle.ham_forms.specs.Outcomes.{Gives};
-ghost use Rattle.ham_forms.specs.Words.{name_of, rule_of};
+ghost use Rattle.ham_forms.specs.Words.{name_of, invariant_kind_of};
 ghost use Rattle.ham_toml.specs.Toml as tables;
 
 use crate::keys::{Form, array_at, at, entry, in_form, in_read_form, known, required};
-use crate::values::{name, natural, naturals, one, params, parts, rule};
+use crate::values::{invariant_kind, name, natural, naturals, one, params, parts};
 use ham_check::{Raw, RawInvariant, RawMethod, RawPart, RawRelation};
-use ham_forms::{FileFault, Rule};
+use ham_forms::{FileFault, InvariantKind};
 use ham_lists::Items;
 use ham_syntax::{Counter, Name, Param};
 use std::alloc::Global;
@@ -44,11 +44,15 @@ fn needed_integer(alloc: Global, table: &Table, key: &str) -> Result<i64, FileFa
     in_form(alloc, key, value.as_integer())
 }
 
-fn needed_rule(alloc: Global, table: &Table, key: &str) -> Result<Rule, FileFault>
-    ensures { Gives result (tables.needed key.now (tables.word_in rule_of) (table_view table.now)) }
+fn needed_invariant_kind(
+    alloc: Global,
+    table: &Table,
+    key: &str,
+) -> Result<InvariantKind, FileFault>
+    ensures { Gives result (tables.needed key.now (tables.word_in invariant_kind_of) (table_view table.now)) }
 {
     let value = required(alloc, table, key)?;
-    in_form(alloc, key, rule(value))
+    in_form(alloc, key, invariant_kind(value))
 }
 
 fn needed_one(alloc: Global, table: &Table, key: &str) -> Result<(), FileFault>
@@ -109,11 +113,11 @@ fn counter(alloc: Global, table: &Table) -> Result<Counter, FileFault>
 fn invariant(alloc: Global, table: &Table) -> Result<RawInvariant, FileFault>
     ensures { Gives result (tables.invariant_in (table_view table.now)) }
 {
-    match needed_rule(alloc, table, "kind")? {
-        Rule::Reference => reference(alloc, table),
-        Rule::Unique => unique(alloc, table),
-        Rule::Low => low(alloc, table),
-        Rule::High => high(alloc, table),
+    match needed_invariant_kind(alloc, table, "kind")? {
+        InvariantKind::Reference => reference(alloc, table),
+        InvariantKind::Unique => unique(alloc, table),
+        InvariantKind::Low => low(alloc, table),
+        InvariantKind::High => high(alloc, table),
     }
 }
 

@@ -2,11 +2,11 @@
 
 ghost use Rattle.std.specs.Prelude.{◌≡◌, Some, None, if◌then◌else◌};
 ghost use Rattle.toml.specs.View.{view, items_view};
-ghost use Rattle.ham_forms.specs.Words.{Finds, kind_of, name_of, rule_of, term_of, verb_of};
+ghost use Rattle.ham_forms.specs.Words.{Finds, kind_of, name_of, invariant_kind_of, term_of, verb_of};
 ghost use Rattle.ham_toml.specs.Toml as tables;
 
 use ham_check::{RawPart, RawTerm, Verb};
-use ham_forms::{Rule, Unread, read_kind, read_rule, read_term, read_verb};
+use ham_forms::{InvariantKind, Unread, read_invariant_kind, read_kind, read_term, read_verb};
 use ham_lists::Items;
 use ham_syntax::{Kind, Name, Param};
 use std::alloc::Global;
@@ -18,10 +18,10 @@ pub fn name(value: &Value) -> Option<Name>
     Name::new(value.as_str()?.as_bytes())
 }
 
-pub fn rule(value: &Value) -> Option<Rule>
-    ensures { result ≡ tables.word_in rule_of (view value.now) }
+pub fn invariant_kind(value: &Value) -> Option<InvariantKind>
+    ensures { result ≡ tables.word_in invariant_kind_of (view value.now) }
 {
-    read_rule(value.as_str()?.as_bytes())
+    read_invariant_kind(value.as_str()?.as_bytes())
 }
 
 fn kind(value: &Value) -> Option<Kind>

@@ -1,3 +1,2 @@
-pub mod PlanFacts
 mod Ranging
 mod Tabling

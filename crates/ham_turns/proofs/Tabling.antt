@@ -9,7 +9,7 @@ use Rattle.ham_plan.proofs.Labelling.{among-within}
 use Rattle.ham_plan.proofs.PlanLanes.{groups_few, lanes_few, slots_few, slot-within}
 use Rattle.ham_turns.specs.Settings.{setting_of}
 use Rattle.ham_turns.specs.Tables.{IsSlot, IsTabled}
-use Rattle.ham_turns.proofs.PlanFacts.{one_lane, group_exists, lane_exists, slot_inside, slot_method, slot_lane, needed_only}
+use Rattle.ham_plan.proofs.PlanFacts.{one_lane, group_exists, lane_exists, slot_inside, slot_method, slot_lane, needed_only}
 
 decider_is : (p : Plan) → IsPlan p → (l : ℕ) → (1 ≤ decider_of p l) × (decider_of p l ≤ p.replicas)
 decider_is p is l = by (ltb l (groups p))

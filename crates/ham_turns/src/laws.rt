@@ -11,7 +11,7 @@ pub fn plans_are_tabled()
     ensures { (p : Plan) → IsPlan p → IsTabled (setting_of p) (slots p) }
 {}
 
-/// Acts that fit a checked object, and the conditions that fail, have a place in frames.
+/// Acts that fit a checked object, with arguments of 64 bits, have a place in frames, and so have the conditions that fail.
 pub fn rules_are_ranged()
     ensures { (o : Schema) → IsChecked o → IsRanged (rules_of o) }
 {}

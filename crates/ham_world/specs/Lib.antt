@@ -1,8 +1,10 @@
-pub mod Turns
-pub mod Runs
 pub mod Worlds
-pub mod Headline
-pub use Rattle.ham_syntax.specs.Objects
-pub use Rattle.ham_syntax.specs.Checked
-pub use Rattle.ham_state.specs.Content
-pub use Rattle.ham_meaning.specs.Meaning
+pub mod Links
+pub mod Streams
+pub mod Sending
+pub mod Keeping
+pub mod Stepping
+pub mod Parted
+pub mod Kept
+pub mod Opened
+pub mod Claims

@@ -1,9 +1,24 @@
-//! A world of replicas of one object, and the run that it makes.
+//! Worlds: replicas of one object, the links between them, and the run that they make.
 #![tactic(auto)]
 
-pub mod event;
+mod ask;
+mod compare;
+mod decode;
+mod event;
 pub mod laws;
+mod link;
+mod look;
+pub mod note;
+mod open;
+mod parts;
+pub mod refusal;
+mod refuse;
+mod send;
+mod step;
+mod turn;
 pub mod world;
 
-pub use event::{Event, IssueRefusal, Note, StepRefusal};
+pub use ham_turns::{Cuts, Event};
+pub use note::{Note, Took};
+pub use refusal::{MAX_STRETCH, StepRefusal};
 pub use world::World;

@@ -1,175 +1,169 @@
-//! The world: one replica, which decides every call on lane 0.
+//! The world.
 
-ghost use Rattle.std.specs.Prelude.{◌≡◌, ◌<◌, ◌∷◌, ◌++◌, [], None, map, vec_len, vec_capacity, IfOk};
-ghost use Rattle.ham_state.specs.Content.{value, rows};
-ghost use Rattle.ham_world.specs.Runs as runs;
+ghost use Rattle.std.specs.Prelude.{◌≡◌, true, false, Err, IfOk, length, map, reverse, MatchOption, None, Some};
+ghost use Rattle.ham_laws.specs.Constrained.{IsPlanned};
+ghost use Rattle.ham_turns.specs.Settings.{IsReplica, setting_of};
+ghost use Rattle.ham_turns.specs.Words.{numbered};
+ghost use Rattle.ham_runs.specs.Runs.{log_of, on_link};
+ghost use Rattle.ham_world.specs.declared.refusal.StepRefusal.TheVariants as refusals;
+ghost use Rattle.ham_world.specs.Worlds as worlds;
 
-use crate::event::{Event, IssueRefusal, Note, StepRefusal};
-use ham_meaning::{Issued, Outcome, apply, permissible};
-use ham_state::{Fact, Row, State};
-use ham_syntax::limits::MAX_LANE_CALLS;
-use ham_syntax::{Act, Items, NoMemory, Object, Place};
+use crate::note::Note;
+use crate::parts::Parts;
+use crate::refusal::StepRefusal;
+use crate::{event, look, open};
+use ham_lists::{Items, NoMemory};
+use ham_plan::Plan;
+use ham_resend::Asked;
+use ham_state::State;
+use ham_syntax::{Object, Place};
+use ham_turns::Event;
 use std::alloc::Global;
 use std::marker::Model;
 
-/// A run of an object so far: what was noted, and what the replica keeps of it.
+/// Replicas of an object, the links between them, and the run that they made.
 #[derive(Drop)]
-pub struct World<'a> {
-    object: &'a Object,
-    state: State,
-    notes: Vec<Note>,
-    decided: u32,
+pub struct World {
+    parts: Parts,
+    stopped: bool,
 }
 
-impl<'a> Model for World<'a> {
-    ghost use Rattle.ham_world.specs.Runs.{Run};
+impl Model for World {
+    ghost use Rattle.ham_world.specs.Worlds.{Run};
 
     ghost Value = { Run };
 
-    ghost use Rattle.ham_world.specs.Worlds.{run_of, IsWorld};
+    ghost use Rattle.ham_world.specs.Kept.{IsWorld, run_by};
 
-    ghost view = { λ w. run_of w.object.now w.notes.items };
+    ghost view = { λ w. run_by w.parts.object w.parts.plan w.parts.notes.items w.stopped };
 
-    ghost invariant = { λ w. IsWorld w.object.now w.state w.notes.items w.decided };
+    ghost invariant = { λ w. IsWorld w.parts w.stopped };
 }
 
-/// The lane on which every call is decided while there is one replica.
-const LANE: u8 = 0;
-
-/// The number of the one replica.
-const REPLICA: u8 = 1;
-
-impl<'a> World<'a> {
+impl World {
     /// The world before its first event.
-    pub fn new(alloc: Global, object: &'a Object) -> Result<World<'a>, NoMemory>
-        ensures { IfOk result (λ w. w ≡ record { object = object.entry.now; notes = [] }) }
+    pub fn new(alloc: Global, object: &Object, plan: &Plan) -> Result<World, NoMemory>
+        requires { IsPlanned object.now plan.now }
+        ensures { IfOk result (λ w. w ≡ worlds.begun object.now plan.now) }
     {
+        let replicas = open::replicas(alloc, object, plan)?;
+        let links = open::links(alloc)?;
+        let decoders = open::decoders(alloc)?;
+        let copy = object.copy(alloc)?;
         Ok(World {
-            object,
-            state: State::open(alloc, object)?,
-            notes: Vec::new(alloc),
-            decided: 0,
+            parts: Parts {
+                object: copy,
+                plan: *plan,
+                replicas,
+                links,
+                decoders,
+                spelled: Items::new(alloc),
+                notes: Vec::new(alloc),
+                sent: 0,
+            },
+            stopped: false,
         })
     }
 
-    /// Takes the next event, and gives what is noted of it. A refused event leaves the world as it was.
-    pub fn step(&mut self, event: Event) -> Result<Note, StepRefusal>
-        ensures { runs.Steps self.old self.new event result }
+    /// The next event, and how many turns it made. A refused one leaves the world; once memory ran out, each answer is
+    /// want of memory.
+    pub fn step(&mut self, alloc: Global, event: &Event) -> Result<usize, StepRefusal>
+        ensures steps { worlds.Steps self.old self.new event.now result }
+        ensures stopped { self.old.stopped ≡ true → result ≡ Err refusals.NoMemory }
     {
-        match event {
-            Event::Issue { replica, act } => self.issue(replica, &act),
-        }
-    }
-
-    fn issue(&mut self, replica: u64, act: &Act) -> Result<Note, StepRefusal>
-        ensures { runs.Steps self.old self.new (Event.Issue replica act.now) result }
-    {
-        if replica != u64::from(REPLICA) {
-            return Err(StepRefusal::NoSuchReplica);
-        }
-        if let Some(refusal) = self.issue_refusal(act) {
-            return Err(StepRefusal::Issue(refusal));
-        }
-        self.decide(act)
-    }
-
-    /// The first reason for which the replica doesn't take an issue.
-    fn issue_refusal(&self, act: &Act) -> Option<IssueRefusal>
-        ensures { result ≡ runs.issue_refusal self.now.object self.now.notes act.now }
-    {
-        if usize::from(act.method) >= self.object.methods().len() {
-            Some(IssueRefusal::UnknownMethod)
-        } else if !self.object.args_fit(act) {
-            Some(IssueRefusal::BadArgs)
-        } else if self.decided as usize >= MAX_LANE_CALLS {
-            Some(IssueRefusal::LaneFull)
-        } else {
-            None
-        }
-    }
-
-    /// Decides an issue that is taken: room is made first, so that nothing is left half done.
-    fn decide(&mut self, act: &Act) -> Result<Note, StepRefusal>
-        requires { runs.issue_refusal self.old.object self.old.notes act.now ≡ None }
-        ensures { runs.Decides self.old self.new act.now result }
-    {
-        if self.notes.reserve(1).is_err() {
+        if self.stopped {
             return Err(StepRefusal::NoMemory);
         }
-        let outcome = permissible(self.object, &self.state, act);
-        if let Outcome::Yes = outcome {
-            apply(self.object, &mut self.state, act)?;
-            self.decided += 1;
-            let note = applied(*act, self.decided);
-            keep(&mut self.notes, &note);
-            return Ok(note);
+        let before = self.parts.notes.as_slice().len();
+        match event::step(alloc, &mut self.parts, event) {
+            Ok(()) => Ok(self.parts.notes.as_slice().len() - before),
+            Err(StepRefusal::NoMemory) => {
+                self.stopped = true;
+                Err(StepRefusal::NoMemory)
+            }
+            Err(why) => Err(why),
         }
-        let note = impermissible(*act, outcome);
-        keep(&mut self.notes, &note);
-        Ok(note)
     }
 
-    /// The object of the run.
+    /// The object.
     pub fn object(&self) -> &Object
-        ensures { result.now ≡ self.now.object }
+        ensures object { result.now ≡ self.now.object }
+        ensures planned { IsPlanned self.now.object self.now.plan }
     {
-        self.object
+        &self.parts.object
     }
 
-    /// The value of a counter at a key now.
-    pub fn value(&self, counter: u8, key: u64) -> i128
-        ensures { result ≡ value (runs.state_of self.now.object self.now.notes) counter key }
+    /// How many replicas there are.
+    pub fn replicas(&self) -> u8
+        ensures replicas { result ≡ self.now.plan.replicas }
     {
-        self.state.value(counter, key)
+        self.parts.plan.replicas()
     }
 
-    /// The rows of a relation now, ascending column by column.
-    pub fn rows(&self, alloc: Global, relation: u8) -> Result<Items<Row>, NoMemory>
-        ensures { IfOk result (λ found. found ≡ rows (runs.state_of self.now.object self.now.notes) relation) }
+    /// The notes so far, the oldest first.
+    pub fn notes(&self) -> &[Note]
+        ensures { result.now ≡ map worlds.shown (reverse self.now.notes) }
     {
-        copy_rows(alloc, self.state.rows(relation))
+        &self.parts.notes
     }
-}
 
-fn copy_rows(alloc: Global, facts: &[Fact]) -> Result<Items<Row>, NoMemory>
-    ensures { IfOk result (λ copies. copies ≡ map (λ f. f.row) facts.now) }
-{
-    let mut copies = Items::new(alloc);
-    for fact in facts {
-        copies.push(fact.row)?;
+    /// How many frames were sent on a link.
+    pub fn sent(&self, from: u8, to: u8) -> u64
+        requires going { self.now.stopped ≡ false }
+        requires from { IsReplica (setting_of self.now.plan) from }
+        requires to { IsReplica (setting_of self.now.plan) to }
+        ensures { result ≡ length (on_link self.now.notes from to) }
+    {
+        look::sent(&self.parts, from, to)
     }
-    Ok(copies)
-}
 
-/// The note of an act that was applied as the call of this number.
-fn applied(act: Act, number: u32) -> Note
-    ensures { result ≡ record { replica = 1; act = act; answer = Issued.Applied (record { lane = 0; number = number }) } }
-{
-    let place = Place { lane: LANE, number };
-    let answer = Issued::Applied { place };
-    Note {
-        replica: REPLICA,
-        act,
-        answer,
+    /// The bytes of a frame of a link; none exactly where no such frame was sent.
+    pub fn frame(&self, from: u8, to: u8, frame: u64) -> Option<&[u8]>
+        requires going { self.now.stopped ≡ false }
+        requires from { IsReplica (setting_of self.now.plan) from }
+        requires to { IsReplica (setting_of self.now.plan) to }
+        ensures { MatchOption result (numbered (on_link self.now.notes from to) frame ≡ None)
+            (λ bytes. worlds.bytes_of (numbered (on_link self.now.notes from to) frame) ≡ Some bytes.now) }
+    {
+        look::frame(&self.parts, from, to, frame)
     }
-}
 
-/// The note of an act that the state forbids.
-fn impermissible(act: Act, outcome: Outcome) -> Note
-    ensures { result ≡ record { replica = 1; act = act; answer = Issued.Impermissible outcome } }
-{
-    let answer = Issued::Impermissible(outcome);
-    Note {
-        replica: REPLICA,
-        act,
-        answer,
+    /// The log of a replica.
+    pub fn log(&self, replica: u8) -> &[Place]
+        requires going { self.now.stopped ≡ false }
+        requires replica { IsReplica (setting_of self.now.plan) replica }
+        ensures { result.now ≡ log_of self.now.notes replica }
+    {
+        look::log(&self.parts, replica)
     }
-}
 
-/// Puts a note last, for which there is room.
-fn keep(notes: &mut Vec<Note>, note: &Note)
-    requires { vec_len notes.old < vec_capacity notes.old }
-    ensures { notes.new.items ≡ notes.old.items ++ note.now ∷ [] }
-{
-    notes.push_reserved(*note);
+    /// The state of a replica, which was opened for the object.
+    pub fn state(&self, replica: u8) -> &State
+        requires going { self.now.stopped ≡ false }
+        requires replica { IsReplica (setting_of self.now.plan) replica }
+        ensures state { result.now.content
+            ≡ worlds.state_at self.now.object (setting_of self.now.plan) self.now.notes replica }
+        ensures opened { result.now.invariants ≡ self.now.object.invariants }
+    {
+        look::state(&self.parts, replica)
+    }
+
+    /// What a replica knows of its request to a group.
+    pub fn verdict(&self, replica: u8, group: u64, number: u64) -> Asked
+        requires going { self.now.stopped ≡ false }
+        requires replica { IsReplica (setting_of self.now.plan) replica }
+        ensures { result ≡ worlds.asked_of self.now.notes replica group number }
+    {
+        look::verdict(&self.parts, replica, group, number)
+    }
+
+    /// Whether the logs of two replicas hold the same calls.
+    pub fn same_calls(&self, one: u8, other: u8) -> bool
+        requires going { self.now.stopped ≡ false }
+        requires one { IsReplica (setting_of self.now.plan) one }
+        requires other { IsReplica (setting_of self.now.plan) other }
+        ensures { result ≡ worlds.same_calls (log_of self.now.notes one) (log_of self.now.notes other) }
+    {
+        look::same_calls(&self.parts, one, other)
+    }
 }

@@ -11,8 +11,10 @@ use std::{env, io};
 /// The words after the program's name; none where they can't be read as text.
 fn words_of(rt: &(impl Env + Alloc), alloc: Global) -> Result<Words, Exit> {
     let mut words = Words::new(alloc);
-    let Ok(all) = env::args(rt) else {
-        return Ok(words);
+    let all = match env::args(rt) {
+        Ok(all) => all,
+        Err(error) if error.kind() == io::ErrorKind::OutOfMemory => return Err(Exit::NoMemory),
+        Err(_) => return Ok(words),
     };
     for word in all.skip(1) {
         if words.push(word.as_str().as_bytes()).is_err() {
@@ -22,14 +24,14 @@ fn words_of(rt: &(impl Env + Alloc), alloc: Global) -> Result<Words, Exit> {
     Ok(words)
 }
 
-fn main(rt: HostRuntime) -> io::Result<ExitCode> {
+fn main(rt: HostRuntime) -> ExitCode {
     let alloc = rt.alloc();
     let words = match words_of(&rt, alloc) {
         Ok(words) => words,
-        Err(exit) => return Ok(ExitCode::from(exit.number())),
+        Err(exit) => return ExitCode::from(exit.number()),
     };
-    let mut shelf = FileShelf::new(rt.clone()?);
+    let mut shelf = FileShelf::new(alloc, &rt);
     let mut out = OutSink::new(io::writer(&rt));
     let exit = run(alloc, &words, &mut shelf, &mut out);
-    Ok(ExitCode::from(exit.number()))
+    ExitCode::from(exit.number())
 }

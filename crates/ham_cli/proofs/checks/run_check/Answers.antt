@@ -1,4 +1,7 @@
 use Rattle.ham_cli.proofs.Ending.{ends_missing}
+use Rattle.std.proofs.Common.{refl}
+use Rattle.ham_cli.specs.declared.exit.Exit.TheVariants as exits
+use Rattle.ham_cli.proofs.Seeking.{missing_sought, two_sought}
 use Rattle.ham_cli.proofs.checks.run_check.Goals as goal
 
 pub returns-in-Err-clause-ends : goal.returns-in-Err-clause-ends
@@ -6,3 +9,9 @@ returns-in-Err-clause-ends g c = ends_missing _ _ _ _ _ _ _ c.in-Err.ensures.fou
 
 pub returns-in-Err-clause-counted : goal.returns-in-Err-clause-counted
 returns-in-Err-clause-counted g c = c.tell_missing.ensures.counted _ _ c.in-Err.ensures.counted
+
+pub returns-in-Err-clause-sought : goal.returns-in-Err-clause-sought
+returns-in-Err-clause-sought g c = missing_sought _ _ _ _ _ _ _ refl c.in-Err.ensures.sought c.tell_missing.ensures.end
+
+pub returns-in-Ok-clause-sought : goal.returns-in-Ok-clause-sought
+returns-in-Ok-clause-sought g c = two_sought _ _ _ _ _ _ exits.DerivationRefused _ refl refl c.in-Ok.ensures.sought c.check_file.ensures.sought

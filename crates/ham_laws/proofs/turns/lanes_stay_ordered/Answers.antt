@@ -13,3 +13,9 @@ returns-clause-drains c o checked p e later r delivered number well turn ordered
   lanes_kept (meaning o) p e later well turn.extends turn.decided ordered,
   numbered_kept (meaning o) p e later well turn.extends turn.decided number numbered,
 )
+
+pub returns-clause-deliveries : goal.returns-clause-deliveries
+returns-clause-deliveries c o p e later number well turn ordered numbered = (
+  lanes_kept (meaning o) p e later well turn.extends turn.decided ordered,
+  numbered_kept (meaning o) p e later well turn.extends turn.decided number numbered,
+)

@@ -4,7 +4,7 @@ use Rattle.ham_resend.proofs.due.due_calls.Goals as goal
 use Rattle.ham_resend.proofs.due.due_calls.Goals.{else-loop-more-test, then-loop-more-test+in-None}
 
 pub loop-more-preserved : goal.loop-more-preserved
-loop-more-preserved c = calls_step _ _ _ _ _ _ _ _ c.acked-acked.ensures.acked c.in-Some.ensures.call c.loop-more.invariant c.in_ok-push-in-Some.ensures.ok c.in_ok-copy-in-Some.ensures
+loop-more-preserved c = calls_step _ _ _ _ _ _ _ _ c.acked-acked.ensures.acked c.in-Some.ensures.call c.loop-more.invariant c.in_ok-push-in-Some.ensures.items c.in_ok-copy-in-Some.ensures
 
 pub returns : goal.returns
 returns c = elim c.loop-more-test.branch [

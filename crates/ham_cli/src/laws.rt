@@ -1,0 +1,14 @@
+//! What is so of every call, as contracts of functions that do nothing.
+
+ghost use Rattle.ham_cli.specs.ReplayEnds.{IsPlayedOnce};
+
+use ham_runs::laws::plans_have_one_setting;
+use ham_tables::laws::derived_plans_say_one;
+
+/// An object and a schedule fix what is played: the text, the refused line and the run.
+pub fn schedules_are_played_once()
+    ensures { IsPlayedOnce }
+{
+    derived_plans_say_one();
+    plans_have_one_setting();
+}

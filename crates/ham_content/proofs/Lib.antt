@@ -1,0 +1,13 @@
+pub mod Numbers
+pub mod Tallied
+pub mod Filling
+pub mod Contents
+pub mod Tallies
+pub mod Counting
+pub mod Each
+pub mod Matched
+pub mod Listing
+pub mod Seating
+pub mod Sieving
+pub mod Sitting
+pub mod Searching

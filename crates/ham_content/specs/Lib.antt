@@ -1,0 +1,9 @@
+pub mod Numbers
+pub mod Tallies
+pub mod Counted
+pub mod Kept
+pub mod Seats
+pub use Rattle.ham_steps.specs.Content
+pub use Rattle.ham_steps.specs.Steps
+pub use Rattle.ham_steps.specs.Touch
+pub use Rattle.ham_steps.specs.Pattern

@@ -1,0 +1,5 @@
+pub mod Waits
+pub mod Boxing
+pub mod Kept
+pub mod Marks
+pub mod Doors

@@ -1,0 +1,16 @@
+//! The core of a node: a replica, the frames that wait for its peers, and the journal of what was entered. What a lock is to
+//! keep stands here, and a door to it without a lock; there is no thread and no link.
+#![tactic(auto)]
+
+mod boxes;
+pub mod door;
+pub mod guarded;
+mod marks;
+pub mod seats;
+mod waiting;
+mod work;
+
+pub use door::{Door, Local, Tally};
+pub use guarded::{Guarded, gathered};
+pub use ham_journal::{Entry, Input, Mark, Reply};
+pub use seats::{Home, Seat, Seats};

@@ -1,0 +1,10 @@
+use Rattle.std.proofs.Common.{◌≡◌, ℕ, ◌*◌, ◌^◌, ◌≤◌}
+use Rattle.std.specs.Prelude.{nat_abs}
+use Rattle.ham_state.specs.Content.{value}
+use Rattle.ham_index_tests.proofs.objects.after.Given as goal
+
+abbrev pub invariant-loop-act : goal.invariant-loop-act
+invariant-loop-act g l = record {
+  opened : l.state.invariants ≡ l.object.invariants;
+  values : (c k : ℕ) → nat_abs (value l.state.content c k) ≤ l.act-index * 2 ^ 35;
+}

@@ -1,0 +1,5 @@
+pub mod Drained
+pub mod Parts
+pub mod Stops
+pub mod Takings
+pub mod Closing

@@ -1,7 +1,0 @@
-use Rattle.std.proofs.Common.{◌≡◌, ◌++◌, string_bytes, take}
-use Rattle.std.specs.List.{flat_map}
-use Rattle.ham_lines.specs.Texts as texts
-use Rattle.ham_lines.proofs.answer.push_rows.Given as goal
-
-abbrev pub invariant-loop-row : goal.invariant-loop-row
-invariant-loop-row l = string_bytes l.text ≡ string_bytes l.fn.text ++ flat_map texts.row_line (take l.row-index l.rows)

@@ -1,0 +1,207 @@
+//! The door with the lock, and how feeders sleep until a frame waits for them.
+
+ghost use Rattle.std.specs.Prelude.{◌≡◌, None};
+ghost use Rattle.ham_turns.specs.Settings.{setting_of};
+ghost use Rattle.ham_journal.specs.Replies.{MayEnter, IsOfKind, FitsReply};
+ghost use Rattle.ham_core.specs.Doors.{Moves};
+
+use ham_core::door::{Tally, count};
+use ham_core::{Door, Guarded, Home, Input, Reply, Seat};
+use ham_links::Clock;
+use std::sync::{Condvar, Mutex, Wait};
+
+/// The bell of a peer's feeder. It is rung once the lock is let go, where the feeder sleeps and a frame waits, or the node was
+/// stopped. That a feeder wakes is not claimed: a lost ring costs no more than the time to the next tick that sends.
+#[derive(Drop)]
+pub struct Bells {
+    one: Condvar,
+    two: Condvar,
+    three: Condvar,
+    four: Condvar,
+    five: Condvar,
+    six: Condvar,
+    seven: Condvar,
+    eight: Condvar,
+}
+
+impl Bells {
+    /// A bell for each replica.
+    pub fn new() -> Bells {
+        Bells {
+            one: Condvar::new(),
+            two: Condvar::new(),
+            three: Condvar::new(),
+            four: Condvar::new(),
+            five: Condvar::new(),
+            six: Condvar::new(),
+            seven: Condvar::new(),
+            eight: Condvar::new(),
+        }
+    }
+
+    fn of(&self, peer: u8) -> &Condvar {
+        match peer {
+            1 => &self.one,
+            2 => &self.two,
+            3 => &self.three,
+            4 => &self.four,
+            5 => &self.five,
+            6 => &self.six,
+            7 => &self.seven,
+            _ => &self.eight,
+        }
+    }
+
+    fn ring(&self, due: u16) {
+        for peer in 1u8..9 {
+            if due & (1u16 << peer) != 0 {
+                self.of(peer).notify_all();
+            }
+        }
+    }
+}
+
+/// The feeders that are to be woken, one bit for each peer.
+fn due<L: Home>(guarded: &mut Guarded<L>) -> u16
+    ensures { guarded.new ≡ guarded.old }
+{
+    let mut due = 0u16;
+    for peer in 1u8..9 {
+        if guarded.wakes(peer) {
+            due |= 1u16 << peer;
+        }
+    }
+    due
+}
+
+/// Enters an input under the lock, and rings once it is let go.
+fn enter_locked<R: Wait, L: Home>(
+    rt: &R,
+    lock: &Mutex<Guarded<L>>,
+    bells: &Bells,
+    seat: &mut Seat<L>,
+    input: Input,
+) -> Reply
+    requires { MayEnter (setting_of L.plan) L.me input }
+    ensures kind { IsOfKind input result }
+    ensures fits { FitsReply result }
+    ensures moves { Moves result seat.old.share.amount seat.new.share.amount }
+    ensures number { seat.new.number ≡ seat.old.number }
+{
+    let mut guard = lock.lock(rt);
+    let reply = guard.enter(seat, input);
+    let due = due(&mut *guard);
+    drop(guard);
+    bells.ring(due);
+    reply
+}
+
+/// A door that shares its node with others. It tells no journal, since others enter too; it tells how many entries it made.
+#[derive(Drop)]
+pub struct Locked<'a, R: Wait, L: Home> {
+    rt: &'a R,
+    lock: &'a Mutex<Guarded<L>>,
+    bells: &'a Bells,
+    seat: Seat<L>,
+    tally: Tally,
+}
+
+impl<'a, R: Wait, L: Home> Locked<'a, R, L> {
+    /// A door with a seat of the node.
+    pub fn new(
+        rt: &'a R,
+        lock: &'a Mutex<Guarded<L>>,
+        bells: &'a Bells,
+        seat: Seat<L>,
+    ) -> Locked<'a, R, L>
+        ensures { result.seat ≡ seat }
+    {
+        Locked {
+            rt,
+            lock,
+            bells,
+            seat,
+            tally: Tally::new(),
+        }
+    }
+
+    /// The seat.
+    pub fn seat(self) -> Seat<L>
+        ensures { result ≡ self.entry.seat }
+    {
+        let Locked {
+            rt: _,
+            lock: _,
+            bells: _,
+            seat,
+            tally: _,
+        } = self;
+        seat
+    }
+}
+
+impl<'a, R: Wait, L: Home> Door for Locked<'a, R, L> {
+    ghost object = { λ d. L.object };
+
+    ghost plan = { λ d. L.plan };
+
+    ghost me = { λ d. L.me };
+
+    ghost history = { λ d. None };
+
+    ghost entries = { λ d. d.seat.share.amount };
+
+    ghost stops = { λ d. d.tally.stops };
+
+    ghost fulls = { λ d. d.tally.fulls };
+
+    ghost refusals = { λ d. d.tally.refusals };
+
+    fn enter(&mut self, input: Input) -> Reply {
+        let reply = enter_locked(self.rt, self.lock, self.bells, &mut self.seat, input);
+        count(&mut self.tally, &reply);
+        reply
+    }
+
+    fn stopped(&mut self) -> bool {
+        let stopped = self.lock.lock(self.rt).stopped();
+        if stopped {
+            self.tally.stops = self.tally.stops.saturating_add(1);
+        }
+        stopped
+    }
+}
+
+/// A clock of a peer's feeder: it pauses until a frame waits for the peer, or the node was stopped.
+#[derive(Drop)]
+pub struct Waiter<'a, R: Wait, L: Home> {
+    rt: &'a R,
+    lock: &'a Mutex<Guarded<L>>,
+    bells: &'a Bells,
+    peer: u8,
+}
+
+impl<'a, R: Wait, L: Home> Waiter<'a, R, L> {
+    pub fn new(
+        rt: &'a R,
+        lock: &'a Mutex<Guarded<L>>,
+        bells: &'a Bells,
+        peer: u8,
+    ) -> Waiter<'a, R, L> {
+        Waiter {
+            rt,
+            lock,
+            bells,
+            peer,
+        }
+    }
+}
+
+impl<'a, R: Wait, L: Home> Clock for Waiter<'a, R, L> {
+    fn pause(&mut self) {
+        let peer = self.peer;
+        let bell = self.bells.of(peer);
+        let guard = bell.wait_while(self.rt, self.lock.lock(self.rt), |g| g.sleeps(peer));
+        drop(guard);
+    }
+}

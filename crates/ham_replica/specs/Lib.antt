@@ -1,0 +1,11 @@
+pub mod Values
+pub mod Steps
+pub mod Looks
+pub mod Kept
+pub mod Shown
+pub mod Drains
+pub mod Issues
+pub mod Deliveries
+pub mod Ticks
+pub mod Opening
+pub mod Turning

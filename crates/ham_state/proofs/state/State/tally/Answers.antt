@@ -1,0 +1,18 @@
+use Rattle.std.proofs.Common.{arith, ◌≡◌, ◌<◌, ◌∙◌, refl, sym, subst, map, length, Some}
+use Rattle.std.specs.Prelude.{slice_get}
+use Rattle.std.proofs.lemmas.List.{length-map}
+use Rattle.std.proofs.lemmas.Option.{slice_get_read}
+use Rattle.ham_watch.specs.declared.watch.Watch.{Watch}
+use Rattle.ham_watch.specs.Broken.{tally_at}
+use Rattle.ham_content.specs.Kept.{content}
+use Rattle.ham_state.specs.Store.{Store}
+use Rattle.ham_state.proofs.Found.{tally_found}
+use Rattle.ham_state.proofs.state.State.tally.Goals as goal
+
+pub returns : goal.returns
+returns c =
+    let seen : c.args.invariant < length (map (λ (v : Watch). v.invariant) c.self.inside.watches.items) = subst (λ (v : Store). c.args.invariant < length v.invariants) (sym c.self.view_is) c.requires in
+    let within : c.args.invariant < length c.self.inside.watches.items = omega (arith, length-map c.self.inside.watches.items (λ (v : Watch). v.invariant)) in
+    let found : slice_get c.self.inside.watches.items c.args.invariant ≡ Some c.index-watch.result.now = slice_get_read c.self.inside.watches.items (length c.self.inside.watches.items) c.args.invariant c.index-watch.result.now refl within c.index-watch.ensures in
+    subst (λ (v : Store). c.count_at.result ≡ tally_at v.content (slice_get v.invariants c.args.invariant) c.args.key.now) c.self.view_is
+    (c.count_at.ensures ∙ tally_found (content c.self.inside.facts c.self.inside.amounts) c.self.inside.watches.items c.args.invariant c.index-watch.result.now c.args.key.now c.self.invariant.watched found)

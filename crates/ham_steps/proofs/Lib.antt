@@ -1,0 +1,5 @@
+pub mod ContentLaws
+pub mod LastTouch
+pub mod Matching
+pub mod Amounts
+mod Touching

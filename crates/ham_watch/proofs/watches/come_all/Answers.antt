@@ -1,0 +1,8 @@
+use Rattle.std.proofs.Common.{arith, ◌+◌}
+use Rattle.ham_content.specs.Kept.{content}
+use Rattle.ham_steps.specs.Content.{with_row}
+use Rattle.ham_watch.proofs.Moves.{invariants-moved}
+use Rattle.ham_watch.proofs.watches.come_all.Goals as goal
+
+pub returns-clause-invariants : goal.returns-clause-invariants
+returns-clause-invariants c = invariants-moved (with_row (content c.args.facts.now c.args.amounts.now) c.args.relation c.args.row) (λ n. n + 1) c.args.watches.now c.loop-watch.watches c.loop-watch.watch-index (omega arith) c.loop-watch.invariant

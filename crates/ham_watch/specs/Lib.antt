@@ -1,0 +1,11 @@
+pub mod Broken
+pub mod Watches
+pub use Rattle.ham_content.specs.Numbers
+pub use Rattle.ham_content.specs.Tallies
+pub use Rattle.ham_content.specs.Counted
+pub use Rattle.ham_content.specs.Kept
+pub use Rattle.ham_content.specs.Seats
+pub use Rattle.ham_steps.specs.Content
+pub use Rattle.ham_steps.specs.Steps
+pub use Rattle.ham_steps.specs.Touch
+pub use Rattle.ham_steps.specs.Pattern
