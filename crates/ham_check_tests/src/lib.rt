@@ -1,7 +1,10 @@
-//! Tests of texts, of objects and of their check.
+//! Tests of values, of texts, and of objects as a check resolves them. Which fault of an object is told first is shown by the
+//! files of `cases/`.
 #![tactic(auto)]
 
 #[cfg(test)]
-mod checks;
+mod objects;
 #[cfg(test)]
 mod texts;
+#[cfg(test)]
+mod values;

@@ -1,4 +1,4 @@
-//! Answers and their texts.
+//! Answers and their texts, those that the files of `cases/` hardly come to.
 
 use ham_lines::{Answer, push_log, push_rows, text};
 use ham_lists::{Items, NoMemory};
@@ -6,7 +6,7 @@ use ham_meaning::Outcome;
 use ham_resend::{Asked, Refused};
 use ham_state::Row;
 use ham_syntax::Place;
-use ham_turns::{Delivered, Issued};
+use ham_turns::Issued;
 use std::alloc::Global;
 use std::process::Abort;
 use std::test::Fail;
@@ -57,26 +57,6 @@ fn what_an_issue_is_answered_has_its_text(rt: HostRuntime) -> Result<(), Fail> {
     Ok(())
 }
 
-/// Fails where the answer to a delivery has another text.
-fn delivered(
-    rt: &impl Abort,
-    alloc: Global,
-    answer: Delivered,
-    wanted: &str,
-) -> Result<(), NoMemory> {
-    let logged = Items::of(alloc, LOGGED.as_slice())?;
-    told(rt, alloc, &Answer::Delivered { answer, logged }, wanted)
-}
-
-#[test]
-fn what_a_delivery_is_answered_has_its_text(rt: HostRuntime) -> Result<(), Fail> {
-    delivered(&rt, rt.alloc(), Delivered::Fresh, "fresh +1:1 +255:65536")?;
-    delivered(&rt, rt.alloc(), Delivered::Repeat, "repeat")?;
-    delivered(&rt, rt.alloc(), Delivered::Noted, "noted")?;
-    delivered(&rt, rt.alloc(), Delivered::Early, "early")?;
-    Ok(())
-}
-
 #[test]
 fn what_is_known_of_a_request_has_its_text(rt: HostRuntime) -> Result<(), Fail> {
     let cases = [
@@ -90,36 +70,6 @@ fn what_is_known_of_a_request_has_its_text(rt: HostRuntime) -> Result<(), Fail> 
     for (asked, wanted) in cases {
         told(&rt, rt.alloc(), &Answer::Asked(asked), wanted)?;
     }
-    Ok(())
-}
-
-#[test]
-fn comparisons_have_their_texts(rt: HostRuntime) -> Result<(), Fail> {
-    let cases = [
-        (true, true, "same equal"),
-        (true, false, "same unequal"),
-        (false, true, "differ equal"),
-        (false, false, "differ unequal"),
-    ];
-    for (same, equal, wanted) in cases {
-        told(&rt, rt.alloc(), &Answer::Compared { same, equal }, wanted)?;
-    }
-    Ok(())
-}
-
-#[test]
-fn numbers_and_marks_have_their_texts(rt: HostRuntime) -> Result<(), Fail> {
-    told(&rt, rt.alloc(), &Answer::Replicas(8), "replicas 8")?;
-    told(&rt, rt.alloc(), &Answer::Torn, "torn")?;
-    told(
-        &rt,
-        rt.alloc(),
-        &Answer::Sent(u64::MAX),
-        "sent 18446744073709551615",
-    )?;
-    told(&rt, rt.alloc(), &Answer::Value(-30), "value -30")?;
-    told(&rt, rt.alloc(), &Answer::Value(0), "value 0")?;
-    told(&rt, rt.alloc(), &Answer::End, "end")?;
     Ok(())
 }
 

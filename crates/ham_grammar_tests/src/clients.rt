@@ -34,24 +34,15 @@ fn clients_issue_and_ask(rt: HostRuntime) -> Result<(), Fail> {
 }
 
 /// Lines that are refused: where several reasons seem to fit, for the first.
-const REFUSED: [(&str, LineFault); 17] = [
+const REFUSED: [(&str, LineFault); 8] = [
     ("", LineFault::NotALine),
-    ("bogus", LineFault::NotALine),
-    ("log 1", LineFault::NotALine),
     ("log\r", LineFault::NotALine),
-    ("Quit", LineFault::NotALine),
-    ("issue 1 deposit 5", LineFault::NotALine),
     ("issue nobody 1 2 3 4 5 6 7", LineFault::NotALine),
     ("issue nobody 1 2 3 4 5 6", LineFault::UnknownName),
-    ("show", LineFault::NotALine),
     ("show nobody x", LineFault::NotALine),
-    ("show nobody 5", LineFault::UnknownName),
     ("show stock", LineFault::BadKey),
     ("show balance 0", LineFault::BadKey),
-    ("rows balance", LineFault::UnknownName),
-    ("rows student 1", LineFault::NotALine),
     ("verdict 0 18446744073709551616", LineFault::NotALine),
-    ("verdict 0", LineFault::NotALine),
 ];
 
 #[test]

@@ -1,10 +1,8 @@
-//! Tests of what a state keeps beside its content: tallies, broken keys, and sieves.
+//! Tests of what a state keeps beside its content, in states that break invariants too, which no run comes to.
 #![tactic(auto)]
 
 #[cfg(test)]
 mod counted;
-#[cfg(test)]
-mod lists;
 #[cfg(test)]
 mod objects;
 #[cfg(test)]

@@ -3,7 +3,7 @@
 ghost use Rattle.std.specs.Prelude.{◌≡◌, ◌<◌, ◌≤◌};
 
 use crate::values::{act, place};
-use ham_frame::{Frame, Ruling, fits};
+use ham_frame::{Frame, fits};
 use ham_objfile::read;
 use ham_replica::{DeliverRefusal, Delivered, IssueRefusal, Issued, Replica, Turn};
 use ham_resend::Asked;
@@ -158,51 +158,6 @@ fn act_of(frame: &Frame) -> Option<Act> {
     match frame {
         Frame::Call(call) => Some(call.act),
         _ => None,
-    }
-}
-
-/// Whether a turn sends, besides a call, this acknowledgement to the replica and nothing else.
-pub fn sends_ack(turn: &Turn<Delivered>, to: u8, lane: u8, count: u32) -> bool {
-    match turn.out.parts().rest {
-        [out] => out.to == to && is_ack(&out.frame, lane, count),
-        _ => false,
-    }
-}
-
-fn is_ack(frame: &Frame, of: u8, up_to: u32) -> bool {
-    match frame {
-        Frame::Ack { lane, count } => *lane == of && *count == up_to,
-        _ => false,
-    }
-}
-
-/// Whether a turn sends, besides a call, this ruling on a request of the replica and nothing else.
-pub fn sends_verdict(turn: &Turn<Delivered>, to: u8, number: u32, ruling: Ruling) -> bool {
-    match turn.out.parts().rest {
-        [out] => out.to == to && is_verdict(&out.frame, number, ruling),
-        _ => false,
-    }
-}
-
-fn is_verdict(frame: &Frame, of: u32, ruled: Ruling) -> bool {
-    match frame {
-        Frame::Verdict { number, ruling, .. } => *number == of && *ruling == ruled,
-        _ => false,
-    }
-}
-
-/// Whether a tick sends this request to the replica and nothing else.
-pub fn sends_request(turn: &Turn<()>, to: u8, number: u32) -> bool {
-    match turn.out.parts().rest {
-        [out] => out.to == to && is_request(&out.frame, number),
-        _ => false,
-    }
-}
-
-fn is_request(frame: &Frame, of: u32) -> bool {
-    match frame {
-        Frame::Request { number, .. } => *number == of,
-        _ => false,
     }
 }
 

@@ -1,4 +1,4 @@
-//! Tests that cross crates, and the runs over shelves and sinks in memory that they share.
+//! Tests that cross crates, over shelves and sinks in memory: what no file of `cases/` can show.
 #![tactic(auto)]
 
 #[cfg(test)]
@@ -9,12 +9,4 @@ mod derivations;
 mod faults;
 pub mod fixtures;
 #[cfg(test)]
-mod limits;
-#[cfg(test)]
 mod meanings;
-#[cfg(test)]
-mod refused_lines;
-#[cfg(test)]
-mod runs;
-#[cfg(test)]
-mod whole_objects;

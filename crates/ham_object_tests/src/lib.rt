@@ -1,5 +1,0 @@
-//! Tests of object files.
-#![tactic(auto)]
-
-#[cfg(test)]
-mod files;
