@@ -1,0 +1,5 @@
+pub mod Words
+pub mod Written
+pub mod Lines
+pub mod Understood
+pub mod Textual
