@@ -1,7 +1,7 @@
-//! Lines of clients, and the words of a line.
+//! Lines of clients.
 
 use crate::objects::shop;
-use ham_lines::{ClientLine, LineFault, read_client, split};
+use ham_lines::{ClientLine, LineFault, read_client};
 use ham_syntax::{Act, Args};
 use std::test::Fail;
 
@@ -28,7 +28,7 @@ fn clients_issue_and_ask(rt: HostRuntime) -> Result<(), Fail> {
         ("stop ", ClientLine::Stop),
     ];
     for (text, wanted) in cases {
-        assert_eq!(rt; read_client(&object, text.as_bytes()), Ok(wanted));
+        assert!(rt; read_client(&object, text.as_bytes()) == Ok(wanted));
     }
     Ok(())
 }
@@ -49,19 +49,7 @@ const REFUSED: [(&str, LineFault); 8] = [
 fn a_client_is_refused_for_the_first_reason(rt: HostRuntime) -> Result<(), Fail> {
     let object = shop(rt.alloc())?;
     for (text, wanted) in REFUSED {
-        assert_eq!(rt; read_client(&object, text.as_bytes()), Err(wanted));
+        assert!(rt; read_client(&object, text.as_bytes()) == Err(wanted));
     }
-    Ok(())
-}
-
-#[test]
-fn words_stand_between_spaces(rt: HostRuntime) -> Result<(), Fail> {
-    let words = split(rt.alloc(), b"  issue 1  withdraw\t30 ")?;
-    let wanted = [b"issue".as_slice(), b"1", b"withdraw\t30"];
-    assert_eq!(rt; words.items().len(), wanted.len());
-    for (word, bytes) in words.items().iter().zip(wanted) {
-        assert_eq!(rt; word.items(), bytes);
-    }
-    assert!(rt; split(rt.alloc(), b"  ")?.items().is_empty());
     Ok(())
 }

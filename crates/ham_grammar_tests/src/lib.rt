@@ -1,8 +1,7 @@
-//! Tests of the lines of schedules and of clients, and of the texts of answers.
+//! Tests of the lines of schedules and of clients. Which lines are refused, and what is answered, is shown by the files of
+//! `examples/tests/`.
 #![tactic(auto)]
 
-#[cfg(test)]
-mod answers;
 #[cfg(test)]
 mod clients;
 #[cfg(test)]
