@@ -15,16 +15,20 @@ use Rattle.ham_cli.specs.declared.exit.Exit.{Exit}
 use Rattle.ham_cli.specs.declared.exit.Exit.TheVariants as exits
 use Rattle.ham_cli.specs.declared.named.NamedClaim.{NamedClaim}
 use Rattle.ham_cli.specs.Exits.{IsCounted}
-use Rattle.ham_cli.specs.Commands.{Asked, Replays, Normalizes, Checks, Derives, Exemplifies, Tabulates, asked}
+use Rattle.ham_cli.specs.Commands.{Asked, Replays, Normalizes, Checks, Derives, Exemplifies, Tabulates, Bulks, Scripts, asked}
 use Rattle.ham_syntax.specs.declared.limits.TheConstants.{MAX_OBJECT_BYTES, MAX_SCHEDULE_BYTES}
 use Rattle.ham_cli.specs.Files.{HasFile}
-use Rattle.ham_cli.specs.ReplayEnds.{IsPlayed, IsPlayedOnce, EndsAtSchedule}
+use Rattle.ham_cli.specs.ReplayEnds.{HaveOneSetting, IsPlayed, IsPlayedOnce, EndsAtSchedule}
+use Rattle.ham_turns.specs.Settings.{setting_of}
+use Rattle.ham_bulk.specs.Scripted.{scripted, bulked}
+use Rattle.ham_cli.specs.BulkEnds.{EndsWithBulk, EndsWithScript, IsWhole}
 use Rattle.ham_cli.specs.CheckEnds.{IsGoodText, ok_line, EndsWith, EndsAtFile}
 use Rattle.ham_cli.specs.DeriveEnds.{claim_named, none_line, EndsWithClaim, EndsWithNames}
 use Rattle.ham_cli.specs.ExampleEnds.{derivable_line, none_shown_line, EndsWithCase, EndsWithNamed}
 use Rattle.ham_cli.specs.TablesEnds.{EndsWithPlan}
 use Rattle.ham_cli.specs.Writes.{PutsMade}
 use Rattle.ham_cli.specs.Top.{EndsAs, IsAllowed, Completes}
+use Rattle.ham_cli.proofs.Drawn.{drawn_fine}
 use Rattle.ham_cli.proofs.Fine.{Fine, IsCalm, put_fine, made_fine, one_file, not_too_long, stops_fine, from_fine}
 
 -- what is refused isn't done
@@ -93,19 +97,25 @@ with_case_named o p named claim before now exit same is calm h =
     let there : claim_named p named ≡ Some claim = subst (λ (x : Schema). claim_named x named ≡ Some claim) same is in
     with_case p claim before now exit calm (subst (λ (x : Option Claim). EndsWithNamed p x before now exit) there h)
 
-ended_by : IsAnsweredOnce → IsPlayedOnce → (files : List File) (asks : Asked) (before now : Option (List ℕ)) (exit : Exit) → IsCalm exit → EndsAs (Some asks) files before now exit → IsAllowed asks files → Fine exit
-ended_by one once files (Replays object schedule) before now exit calm ends a =
+ended_by : IsAnsweredOnce → IsPlayedOnce → HaveOneSetting → (files : List File) (asks : Asked) (before now : Option (List ℕ)) (exit : Exit) → IsCalm exit → EndsAs (Some asks) files before now exit → IsAllowed asks files → Fine exit
+ended_by one once setting files (Replays object schedule) before now exit calm ends a =
     from_fine one files object a.0 before now exit (λ o. EndsAtSchedule o files schedule before now exit) calm a.1 (λ p same e. at_schedule once files schedule p a.2.0 before now exit (subst (λ (x : Schema). IsPlayed x files schedule a.2.0) same a.2.1) a.2.2 calm e) ends
-ended_by one once files (Normalizes object) before now exit calm ends a =
+ended_by one once setting files (Normalizes object) before now exit calm ends a =
     from_fine one files object a.0 before now exit (λ o. PutsMade before now (plain_of o) exits.Done exit) calm a.1 (λ p same e. made_fine before now (plain_of p) exit calm e) ends
-ended_by one once files (Checks object file) before now exit calm ends a =
+ended_by one once setting files (Checks object file) before now exit calm ends a =
     from_fine one files object a.0 before now exit (λ o. EndsAtFile o files file before now exit) calm a.1 (λ p same e. at_file files file a.2.0 a.0 p before now exit same a.2.1 a.2.2 calm e) ends
-ended_by one once files (Derives object named) before now exit calm ends a =
+ended_by one once setting files (Derives object named) before now exit calm ends a =
     from_fine one files object a.0 before now exit (λ o. EndsWithNames o (claim_named o named) before now exit) calm a.1 (λ p same e. with_names a.0 p named a.2.0 before now exit same a.2.1 calm e) ends
-ended_by one once files (Exemplifies object named) before now exit calm ends a =
+ended_by one once setting files (Exemplifies object named) before now exit calm ends a =
     from_fine one files object a.0 before now exit (λ o. EndsWithNamed o (claim_named o named) before now exit) calm a.1 (λ p same e. with_case_named a.0 p named a.2.0 before now exit same a.2.1 calm e) ends
-ended_by one once files (Tabulates object replicas) before now exit calm ends a =
+ended_by one once setting files (Tabulates object replicas) before now exit calm ends a =
     from_fine one files object a.0 before now exit (λ o. EndsWithPlan o replicas before now exit) calm a.1 (λ p same e. made_fine before now (tables_text p e.0) exit calm e.2) ends
+ended_by one once setting files (Bulks object d) before now exit calm ends a =
+    from_fine one files object a.0 before now exit (λ o. EndsWithBulk o d before now exit) calm a.1
+    (λ p same e. drawn_fine setting p d e.0 (bulked p (setting_of e.0) d.seed d.rounds) before now exit e.1.plan refl (subst (λ (x : Schema). IsWhole x d) same a.2) calm e.2) ends
+ended_by one once setting files (Scripts object d) before now exit calm ends a =
+    from_fine one files object a.0 before now exit (λ o. EndsWithScript o d before now exit) calm a.1
+    (λ p same e. drawn_fine setting p d e.0 (scripted p (setting_of e.0) d.seed d.rounds) before now exit e.1.plan refl (subst (λ (x : Schema). IsWhole x d) same a.2) calm e.2) ends
 
 same_asked : (a b : Asked) → Some a ≡ Some b → a ≡ b
 same_asked a b e = cc
@@ -117,8 +127,8 @@ calm_by shelf shelf_now sink sink_now exit counted r w = record {
 }
 
 -- what a command that ended so completes
-pub completes : IsAnsweredOnce → IsPlayedOnce → (words : List (List ℕ)) (held : Option (List File)) (asks : Asked) (before now : Option (List ℕ)) (shelf shelf_now sink sink_now : ℕ) (exit : Exit) → IsCounted shelf shelf_now sink sink_now exit
+pub completes : IsAnsweredOnce → IsPlayedOnce → HaveOneSetting → (words : List (List ℕ)) (held : Option (List File)) (asks : Asked) (before now : Option (List ℕ)) (shelf shelf_now sink sink_now : ℕ) (exit : Exit) → IsCounted shelf shelf_now sink sink_now exit
     → asked words ≡ Some asks → IfSome held (λ files. EndsAs (Some asks) files before now exit) → IfSome held (λ files. Completes words files (Rose shelf shelf_now) (Rose sink sink_now) exit)
-completes one once words None asks before now shelf shelf_now sink sink_now exit counted is ends = tt
-completes one once words (Some files) asks before now shelf shelf_now sink sink_now exit counted is ends = λ others shape allowed r w.
-    ended_by one once files asks before now exit (calm_by shelf shelf_now sink sink_now exit counted r w) ends (subst (λ (x : Asked). IsAllowed x files) (same_asked others asks (sym shape ∙ is)) allowed)
+completes one once setting words None asks before now shelf shelf_now sink sink_now exit counted is ends = tt
+completes one once setting words (Some files) asks before now shelf shelf_now sink sink_now exit counted is ends = λ others shape allowed r w.
+    ended_by one once setting files asks before now exit (calm_by shelf shelf_now sink sink_now exit counted r w) ends (subst (λ (x : Asked). IsAllowed x files) (same_asked others asks (sym shape ∙ is)) allowed)

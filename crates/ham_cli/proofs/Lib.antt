@@ -6,3 +6,4 @@ pub mod Fine
 pub mod Completing
 pub mod OneRun
 pub mod Replaying
+pub mod Drawn

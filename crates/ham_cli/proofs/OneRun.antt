@@ -12,7 +12,7 @@ use Rattle.ham_tables.specs.DerivedPlans.{IsDerivedPlan}
 use Rattle.ham_replay.specs.Claims.{settings_of, setting_by}
 use Rattle.ham_replay.specs.Replays.{Played, played}
 use Rattle.ham_cli.specs.TablesEnds.{IsPlanFor}
-use Rattle.ham_cli.specs.ReplayEnds.{AreDerived, IsPlayed, IsPlayedOnce}
+use Rattle.ham_cli.specs.ReplayEnds.{AreDerived, HaveOneSetting, IsPlayed, IsPlayedOnce}
 use Rattle.ham_cli.proofs.Fine.{one_file}
 
 -- what laws of plans say
@@ -22,10 +22,10 @@ DerivedSaySame = (o : Schema) (p q : Plan) → IsDerivedPlan o p → IsDerivedPl
 abbrev pub SameHaveOneSetting : Type 0
 SameHaveOneSetting = (p q : Plan) → IsPlan p → IsPlan q → SaysSame p q → setting_of p ≡ setting_of q
 
-module _ (say : DerivedSaySame) (one : SameHaveOneSetting) (o : Schema) where
-  one_setting : (n : ℕ) (p q : Plan) → IsPlanFor o n p → IsPlanFor o n q → setting_of p ≡ setting_of q
-  one_setting n p q h k = one p q h.derived.plan k.derived.plan (say o p q h.derived k.derived (h.replicas_are ∙ sym k.replicas_are))
+pub one_setting : DerivedSaySame → SameHaveOneSetting → HaveOneSetting
+one_setting say one o n p q h k = one p q h.derived.plan k.derived.plan (say o p q h.derived k.derived (h.replicas_are ∙ sym k.replicas_are))
 
+module _ (one : HaveOneSetting) (o : Schema) where
   for_at : (plans : List Plan) (i : ℕ) (p : Plan) → AreDerived o plans → i < length plans → slice_get plans i ≡ Some p → IsPlanFor o (i + 1) p
   for_at plans i p h within e =
       let at : i + 1 - 1 ≡ i = omega arith in
@@ -34,7 +34,7 @@ module _ (say : DerivedSaySame) (one : SameHaveOneSetting) (o : Schema) where
   setting_at : (ps qs : List Plan) (i : ℕ) → AreDerived o ps → AreDerived o qs → setting_by (slice_get ps i) ≡ setting_by (slice_get qs i)
   setting_at ps qs i h k = elim ((slice_get_cases ps i).1) [
     | inl a ↦ elim ((slice_get_cases qs i).1) [
-      | inl b ↦ ap setting_by a.2 ∙ one_setting (i + 1) a.0 b.0 (for_at ps i a.0 h a.1 a.2) (for_at qs i b.0 k b.1 b.2) ∙ ap setting_by (sym b.2)
+      | inl b ↦ ap setting_by a.2 ∙ one o (i + 1) a.0 b.0 (for_at ps i a.0 h a.1 a.2) (for_at qs i b.0 k b.1 b.2) ∙ ap setting_by (sym b.2)
       | inr b ↦ absurd (omega (arith, h.all, k.all, a.1, b.0))
     ]
     | inr a ↦ elim ((slice_get_cases qs i).1) [
@@ -47,9 +47,9 @@ module _ (say : DerivedSaySame) (one : SameHaveOneSetting) (o : Schema) where
   unfolding settings_of
   one_settings ps qs h k = λ i n. setting_at ps qs (n - 1) h k i
 
-pub played_once : DerivedSaySame → SameHaveOneSetting → IsPlayedOnce
-played_once say one o files name p q h k =
+pub played_once : HaveOneSetting → IsPlayedOnce
+played_once one o files name p q h k =
     h.comes
-    ∙ ap (λ (y : ℕ → Setting). played o y h.schedule) (one_settings say one o h.plans k.plans h.derived k.derived)
+    ∙ ap (λ (y : ℕ → Setting). played o y h.schedule) (one_settings one o h.plans k.plans h.derived k.derived)
     ∙ ap (played o (settings_of k.plans)) (one_file files name MAX_SCHEDULE_BYTES MAX_SCHEDULE_BYTES h.schedule k.schedule h.file k.file)
     ∙ sym k.comes

@@ -5,6 +5,7 @@ pub mod Writes
 pub mod Sought
 pub mod Refusals
 pub mod ReplayEnds
+pub mod BulkEnds
 pub mod NormalEnds
 pub mod CheckEnds
 pub mod DeriveEnds
@@ -27,3 +28,7 @@ pub use Rattle.ham_tables.specs.TablesText
 pub use Rattle.ham_runs.specs.Headline
 pub use Rattle.ham_replay.specs.Replays
 pub use Rattle.ham_replay.specs.Claims
+pub use Rattle.ham_bulk.specs.Scripts
+pub use Rattle.ham_bulk.specs.ScriptTexts
+pub use Rattle.ham_bulk.specs.Summaries
+pub use Rattle.ham_bulk.specs.Scripted

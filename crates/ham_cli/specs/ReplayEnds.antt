@@ -1,6 +1,7 @@
 -- How `replay OBJECT SCHEDULE` ends: it writes the text of one run, under the plans that the rules derive from the object.
 --     AreDerived         the plans, for 1 to MAX_REPLICAS replicas
 --     IsPlayed, Plays    what is played of a file under them; they are sound, and the run is faithful
+--     HaveOneSetting     there is one setting for so many replicas
 --     IsPlayedOnce       an object and a schedule fix what is played
 use Rattle.std.specs.Prelude.{◌≡◌, ◌⊎◌, ℕ, ◌-◌, ◌≤◌, List, length, slice_get, Option, Some, None, IsSome}
 use Rattle.ham_syntax.specs.declared.limits.TheConstants.{MAX_REPLICAS, MAX_SCHEDULE_BYTES}
@@ -8,6 +9,7 @@ use Rattle.ham_syntax.specs.Objects.{Schema}
 use Rattle.ham_bytes.specs.declared.shelf.File.{File}
 use Rattle.ham_bytes.specs.Outside.{TakesWhole, TakesSome}
 use Rattle.ham_plan.specs.Plans.{Plan}
+use Rattle.ham_turns.specs.Settings.{setting_of}
 use Rattle.ham_replay.specs.Claims.{ArePlans, settings_of, IsPlayedFaithfully}
 use Rattle.ham_replay.specs.Replays.{Played, played}
 use Rattle.ham_cli.specs.declared.exit.Exit.{Exit}
@@ -34,6 +36,10 @@ pub record Plays (o : Schema) (files : List File) (name : List ℕ) (p : Played)
   pub is : IsPlayed o files name p
   pub sound : ArePlans o is.plans
   pub faithful : IsPlayedFaithfully o (settings_of is.plans) p
+
+-- the derived plans of an object for so many replicas have one setting
+abbrev pub HaveOneSetting : Type 0
+HaveOneSetting = (o : Schema) (n : ℕ) (p q : Plan) → IsPlanFor o n p → IsPlanFor o n q → setting_of p ≡ setting_of q
 
 -- whichever derived plans are taken
 abbrev pub IsPlayedOnce : Type 0

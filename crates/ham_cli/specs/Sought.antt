@@ -7,7 +7,7 @@ use Rattle.ham_cli.specs.declared.exit.Exit.{Exit}
 use Rattle.ham_cli.specs.declared.exit.Exit.TheVariants as exits
 use Rattle.ham_cli.specs.declared.objects.Missing.{Missing}
 use Rattle.ham_cli.specs.declared.objects.Missing.TheVariants as missing
-use Rattle.ham_cli.specs.Commands.{Asked, Replays, Normalizes, Checks, Derives, Exemplifies, Tabulates}
+use Rattle.ham_cli.specs.Commands.{Asked, Replays, Normalizes, Checks, Derives, Exemplifies, Tabulates, Bulks, Scripts}
 use Rattle.ham_cli.specs.Exits.{exit_of_fetch}
 
 -- the files of a command, in the order in which they are asked for
@@ -18,6 +18,8 @@ files_of (Checks object file) = object ∷ file ∷ []
 files_of (Derives object claim) = object ∷ []
 files_of (Exemplifies object claim) = object ∷ []
 files_of (Tabulates object replicas) = object ∷ []
+files_of (Bulks object drawing) = object ∷ []
+files_of (Scripts object drawing) = object ∷ []
 
 -- a command that asked for so many files may end so
 abbrev pub MayEnd : Asked → ℕ → Exit → Type 0
@@ -30,6 +32,8 @@ MayEnd (Checks object file) count exits.ScheduleRefused = ⊥
 MayEnd (Derives object claim) count exits.ScheduleRefused = ⊥
 MayEnd (Exemplifies object claim) count exits.ScheduleRefused = ⊥
 MayEnd (Tabulates object replicas) count exits.ScheduleRefused = ⊥
+MayEnd (Bulks object drawing) count exits.ScheduleRefused = count ≡ 1
+MayEnd (Scripts object drawing) count exits.ScheduleRefused = count ≡ 1
 MayEnd asks count exits.ReadFault = 0 < count
 MayEnd asks count exits.WriteFault = 0 < count
 MayEnd asks count exits.NoMemory = Unit {0}
@@ -40,6 +44,8 @@ MayEnd (Checks object file) count exits.DerivationRefused = count ≡ 2
 MayEnd (Derives object claim) count exits.DerivationRefused = count ≡ 1
 MayEnd (Exemplifies object claim) count exits.DerivationRefused = count ≡ 1
 MayEnd (Tabulates object replicas) count exits.DerivationRefused = ⊥
+MayEnd (Bulks object drawing) count exits.DerivationRefused = ⊥
+MayEnd (Scripts object drawing) count exits.DerivationRefused = ⊥
 
 -- what was asked for before and now: the first of the command's files more
 pub record AsksFirst (asks : Asked) (before now : List (List ℕ)) (exit : Exit) : Type 0 where

@@ -8,11 +8,12 @@ use Rattle.ham_rules.specs.declared.claim.Claim.{Claim}
 use Rattle.ham_replay.specs.Replays.{Played}
 use Rattle.ham_cli.specs.declared.exit.Exit.{Exit}
 use Rattle.ham_cli.specs.declared.exit.Exit.TheVariants as exits
-use Rattle.ham_cli.specs.Commands.{Asked, Replays, Normalizes, Checks, Derives, Exemplifies, Tabulates, asked}
+use Rattle.ham_cli.specs.Commands.{Asked, Replays, Normalizes, Checks, Derives, Exemplifies, Tabulates, Bulks, Scripts, asked}
 use Rattle.ham_syntax.specs.declared.limits.TheConstants.{MAX_OBJECT_BYTES}
 use Rattle.ham_cli.specs.Files.{HasFile, HasObject}
 use Rattle.ham_cli.specs.Writes.{Puts}
 use Rattle.ham_cli.specs.ReplayEnds.{IsPlayed, EndsReplay}
+use Rattle.ham_cli.specs.BulkEnds.{EndsBulk, EndsScript, IsWhole}
 use Rattle.ham_cli.specs.NormalEnds.{EndsNormal}
 use Rattle.ham_cli.specs.CheckEnds.{IsGoodText, EndsCheck}
 use Rattle.ham_cli.specs.DeriveEnds.{claim_named, EndsDerive}
@@ -34,6 +35,8 @@ EndsAs (Some (Checks object file)) files before now exit = EndsCheck files objec
 EndsAs (Some (Derives object claim)) files before now exit = EndsDerive files object claim before now exit
 EndsAs (Some (Exemplifies object claim)) files before now exit = EndsExample files object claim before now exit
 EndsAs (Some (Tabulates object replicas)) files before now exit = EndsTables files object replicas before now exit
+EndsAs (Some (Bulks object drawing)) files before now exit = EndsBulk files object drawing before now exit
+EndsAs (Some (Scripts object drawing)) files before now exit = EndsScript files object drawing before now exit
 
 -- the same where it may be untold what the shelf holds
 abbrev pub Ends : List (List ℕ) → Option (List File) → Option (List ℕ) → Option (List ℕ) → Exit → Type 0
@@ -43,7 +46,7 @@ Ends words (Some files) before now exit = EndsAs (asked words) files before now 
 -- ---- when a command succeeds
 
 -- the object is there, and so is what the command needs beside it: a schedule whose lines are all allowed, the text of
--- a good derivation, methods of these names
+-- a good derivation, methods of these names, a script without a refused line
 abbrev pub IsAllowed : Asked → List File → Type 0
 IsAllowed (Replays object schedule) files =
     (o : Schema) × HasObject files object o × ((p : Played) × IsPlayed o files schedule p × (p.refused ≡ None))
@@ -53,6 +56,8 @@ IsAllowed (Checks object file) files =
 IsAllowed (Derives object claim) files = (o : Schema) × HasObject files object o × ((c : Claim) × (claim_named o claim ≡ Some c))
 IsAllowed (Exemplifies object claim) files = (o : Schema) × HasObject files object o × ((c : Claim) × (claim_named o claim ≡ Some c))
 IsAllowed (Tabulates object replicas) files = (o : Schema) × HasObject files object o
+IsAllowed (Bulks object drawing) files = (o : Schema) × HasObject files object o × IsWhole o drawing
+IsAllowed (Scripts object drawing) files = (o : Schema) × HasObject files object o × IsWhole o drawing
 
 -- Words of a shape, files that the command allows, and no count of faults that rose give Done, or memory ran out.
 abbrev pub Completes : List (List ℕ) → List File → (reads_failed writes_failed : Type 0) → Exit → Type 0

@@ -4,6 +4,7 @@ ghost use Rattle.std.specs.Prelude.{◌≡◌};
 ghost use Rattle.ham_cli.specs.Exits as exits;
 
 use ham_bytes::FetchFault;
+use ham_replay::ReplayEnd;
 
 /// The exits, with their numbers.
 #[derive(Clone, Copy, Debug, PartialEq, Eq)]
@@ -47,5 +48,17 @@ pub fn exit_of_fetch(fault: FetchFault) -> Exit
         FetchFault::Failed => Exit::ReadFault,
         FetchFault::TooLong { .. } => Exit::TooLong,
         FetchFault::NoMemory => Exit::NoMemory,
+    }
+}
+
+/// How the program ends after a replay.
+pub fn exit_of_replay(end: ReplayEnd) -> Exit
+    ensures { result ≡ exits.exit_of_replay end }
+{
+    match end {
+        ReplayEnd::Done => Exit::Done,
+        ReplayEnd::Refused { .. } => Exit::ScheduleRefused,
+        ReplayEnd::WriteFault => Exit::WriteFault,
+        ReplayEnd::NoMemory => Exit::NoMemory,
     }
 }

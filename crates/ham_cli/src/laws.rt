@@ -1,14 +1,21 @@
 //! What is so of every call, as contracts of functions that do nothing.
 
-ghost use Rattle.ham_cli.specs.ReplayEnds.{IsPlayedOnce};
+ghost use Rattle.ham_cli.specs.ReplayEnds.{HaveOneSetting, IsPlayedOnce};
 
 use ham_runs::laws::plans_have_one_setting;
 use ham_tables::laws::derived_plans_say_one;
+
+/// The derived plans of an object for so many replicas have one setting.
+pub fn derived_plans_have_one_setting()
+    ensures { HaveOneSetting }
+{
+    derived_plans_say_one();
+    plans_have_one_setting();
+}
 
 /// An object and a schedule fix what is played: the text, the refused line and the run.
 pub fn schedules_are_played_once()
     ensures { IsPlayedOnce }
 {
-    derived_plans_say_one();
-    plans_have_one_setting();
+    derived_plans_have_one_setting();
 }

@@ -1,6 +1,7 @@
 //! The top call: what the words of the command line ask, done over a shelf and a sink.
 #![tactic(auto)]
 
+mod bulks;
 mod checks;
 mod command;
 mod derives;

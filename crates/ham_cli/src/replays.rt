@@ -1,17 +1,16 @@
 //! The command `replay OBJECT SCHEDULE`.
 
-ghost use Rattle.std.specs.Prelude.{◌≡◌, ◌≤◌, IfSome};
+ghost use Rattle.std.specs.Prelude.{◌≤◌, IfSome};
 ghost use Rattle.ham_cli.specs.ReplayEnds as replay_ends;
-ghost use Rattle.ham_cli.specs.Exits as exits;
 ghost use Rattle.ham_cli.specs.Commands.{Replays};
 ghost use Rattle.ham_cli.specs.Exits.{IsCounted};
 ghost use Rattle.ham_cli.specs.Sought.{AsksFirst, IsFileEnd};
 
-use crate::exit::{Exit, exit_of_fetch};
+use crate::exit::{Exit, exit_of_fetch, exit_of_replay};
 use crate::objects::{fetch_object, tell_missing};
 use crate::plans::plans_of;
 use ham_bytes::{Shelf, Sink};
-use ham_replay::{ReplayEnd, replay};
+use ham_replay::replay;
 use ham_syntax::Object;
 use ham_syntax::limits::MAX_SCHEDULE_BYTES;
 use std::alloc::Global;
@@ -51,15 +50,4 @@ fn replay_file<H: Shelf, K: Sink>(
         Err(fault) => return exit_of_fetch(fault),
     };
     exit_of_replay(replay(alloc, object, &plans_of(object), bytes.items(), out))
-}
-
-fn exit_of_replay(end: ReplayEnd) -> Exit
-    ensures { result ≡ exits.exit_of_replay end }
-{
-    match end {
-        ReplayEnd::Done => Exit::Done,
-        ReplayEnd::Refused { .. } => Exit::ScheduleRefused,
-        ReplayEnd::WriteFault => Exit::WriteFault,
-        ReplayEnd::NoMemory => Exit::NoMemory,
-    }
 }

@@ -2,17 +2,18 @@
 
 ghost use Rattle.std.specs.Prelude.{◌≡◌, ◌≤◌, Some, None, IfSome};
 ghost use Rattle.ham_bytes.specs.Causes.{Rose};
-ghost use Rattle.ham_cli.specs.Commands.{asked, seen, HasReplicas};
+ghost use Rattle.ham_cli.specs.Commands.{asked, seen, IsInRange};
 ghost use Rattle.ham_cli.specs.Exits.{IsCounted};
 ghost use Rattle.ham_cli.specs.Sought.{IsSought};
 ghost use Rattle.ham_cli.specs.Top as runs;
 
+use crate::bulks::{run_bulk, run_script};
 use crate::checks::run_check;
 use crate::command::{Command, command_of};
 use crate::derives::run_derive;
 use crate::examples::run_example;
 use crate::exit::Exit;
-use crate::laws::schedules_are_played_once;
+use crate::laws::{derived_plans_have_one_setting, schedules_are_played_once};
 use crate::normals::run_normal;
 use crate::replays::run_replay;
 use crate::tabulates::run_tables;
@@ -34,9 +35,10 @@ pub fn run<H: Shelf, K: Sink>(alloc: Global, words: &Words, shelf: &mut H, out: 
     ensures read { result ≡ Exit.ReadFault → Rose (H.faults shelf.old) (H.faults shelf.new) }
     ensures write { result ≡ Exit.WriteFault → Rose (K.faults out.old) (K.faults out.new) }
 {
-    // An object's file has one meaning, and a schedule is played one way: completeness rests on these laws.
+    // An object's file has one meaning, and a schedule or script is played one way: completeness rests on these laws.
     answered_once();
     schedules_are_played_once();
+    derived_plans_have_one_setting();
     match command_of(words.items()) {
         Some(command) => perform(alloc, &command, shelf, out),
         None => put_text(out, USAGE, Exit::Usage),
@@ -49,7 +51,7 @@ fn perform<H: Shelf, K: Sink>(
     shelf: &mut H,
     out: &mut K,
 ) -> Exit
-    requires { HasReplicas command.now }
+    requires { IsInRange command.now }
     ensures ends { IfSome (H.held shelf.old) (λ files. runs.EndsAs (Some (seen command.now)) files (K.taken out.old) (K.taken out.new) result) }
     ensures counted { IsCounted (H.faults shelf.old) (H.faults shelf.new) (K.faults out.old) (K.faults out.new) result }
     ensures sought { IsSought (Some (seen command.now)) (H.sought shelf.old) (H.sought shelf.new) result }
@@ -61,5 +63,7 @@ fn perform<H: Shelf, K: Sink>(
         Command::Derive { object, claim } => run_derive(alloc, object, claim, shelf, out),
         Command::Example { object, claim } => run_example(alloc, object, claim, shelf, out),
         Command::Tables { object, replicas } => run_tables(alloc, object, replicas, shelf, out),
+        Command::Bulk { object, drawing } => run_bulk(alloc, object, drawing, shelf, out),
+        Command::Script { object, drawing } => run_script(alloc, object, drawing, shelf, out),
     }
 }

@@ -1,4 +1,4 @@
-//! Turns of a bank's replicas by their calls. What they answer in a run is shown by the files of `cases/`.
+//! Turns of a bank's replicas by their calls. What they answer in a run is shown by the files of `examples/tests/`.
 
 use crate::bank::{Heard, Member, applied, deposit, many_sent, withdraw};
 use crate::values::{place, verdict};

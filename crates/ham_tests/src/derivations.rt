@@ -1,4 +1,4 @@
-//! Obligations and reasons by their calls. Which derivations are good is shown by the files of `cases/`.
+//! Obligations and reasons by their calls. Which derivations are good is shown by the files of `examples/tests/`.
 
 use ham_derive::{print_text, read_text};
 use ham_objfile::read;

@@ -1,4 +1,4 @@
-//! Tests that cross crates, over shelves and sinks in memory: what no file of `cases/` can show.
+//! Tests that cross crates, over shelves and sinks in memory: what no file of `examples/tests/` can show.
 #![tactic(auto)]
 
 #[cfg(test)]
