@@ -70,7 +70,7 @@ is_replayed one o d p k some few replays plans h =
 -- ---- completeness
 
 no_refusal : (es : Option StepRefusal) (f : StepRefusal → Refusal) → es ≡ None → IsSome (option_map f es) → ⊥
-no_refusal None f none some = some
+no_refusal None f none some = absurd (let bad = some in cc)
 no_refusal (Some why) f none some = absurd cc
 
 -- no line of the script is refused, so the command doesn't end before its end but for a fault

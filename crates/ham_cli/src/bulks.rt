@@ -9,6 +9,7 @@ ghost use Rattle.ham_cli.specs.Sought.{AsksFirst, IsTextEnd};
 
 use crate::command::Drawing;
 use crate::exit::{Exit, exit_of_replay};
+use crate::laws::derived_plans_have_one_setting;
 use crate::objects::{fetch_object, tell_missing};
 use ham_bulk::{bulk, script};
 use ham_bytes::{Shelf, Sink};
@@ -82,6 +83,7 @@ fn put_script<K: Sink>(alloc: Global, object: &Object, drawing: Drawing, out: &m
     ensures counted { IsSinkCounted (K.faults out.old) (K.faults out.new) result }
     ensures end { IsTextEnd Exit.Done result ⊎ IsTextEnd Exit.ScheduleRefused result }
 {
+    derived_plans_have_one_setting();
     let plan = plan_for(object, drawing);
     exit_of_replay(script(alloc, object, &plan, drawing.seed, drawing.rounds, out))
 }
