@@ -2,10 +2,6 @@
 #![tactic(auto)]
 
 #[cfg(test)]
-mod commands;
-#[cfg(test)]
-mod derivations;
-#[cfg(test)]
 mod faults;
 pub mod fixtures;
 #[cfg(test)]
