@@ -89,6 +89,7 @@ impl RecordsReader<'_> {
 pub fn read(alloc: Global, object: &Object, bytes: &[u8]) -> Result<Records, AuditText>
     requires { length bytes.now < 2 ^ 63 }
     ensures text { IfOk result (λ records. texts.IsAuditText object.now records bytes.now) }
+    ensures one { IfOk result (λ records. (others : List (List Logged)) → texts.IsAuditText object.now others bytes.now → others ≡ records) }
     ensures bad_line { (line : ℕ) → result ≡ Err (AuditText.BadLine line) → texts.IsBadLine object.now bytes.now line }
     ensures refused { (line : ℕ) → result ≡ Err (AuditText.BadLine line) → (records : List (List Logged)) → texts.IsAuditText object.now records bytes.now → ⊥ }
 {

@@ -2,6 +2,7 @@
 
 ghost use Rattle.std.specs.Prelude.{◌≡◌, ◌<◌, [], ◌∷◌, ◌++◌, length, OnOk};
 ghost use Rattle.std.specs.Fmt.{decimal};
+ghost use Rattle.ham_text.specs.Numbers.{AreNumbers};
 ghost use Rattle.ham_text.specs.Written.{line_text};
 ghost use Rattle.ham_syntax.specs.Objects.{method_name};
 ghost use Rattle.ham_records.specs.Texts as texts;
@@ -38,7 +39,8 @@ pub fn push_replica(text: &mut Bytes, replica: u8) -> Result<(), NoMemory>
 /// Puts a call's line last.
 pub fn push_logged(text: &mut Bytes, object: &Object, logged: &Logged) -> Result<(), NoMemory>
     requires { logged.now.act.method < length object.now.methods }
-    ensures { OnOk result (text.new ≡ text.old ++ line_text (texts.call_words object.now logged.now)) }
+    ensures text { OnOk result (text.new ≡ text.old ++ line_text (texts.call_words object.now logged.now)) }
+    ensures small { OnOk result (AreNumbers logged.now.act.args) }
 {
     text.extend(b"call")?;
     push_number(text, u64::from(logged.place.lane))?;

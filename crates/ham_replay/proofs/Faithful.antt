@@ -26,7 +26,7 @@ use Rattle.ham_grammar.specs.Computed.{read_of}
 use Rattle.ham_world.specs.declared.refusal.StepRefusal.{StepRefusal}
 use Rattle.ham_world.specs.Worlds.{refusal_of, taken}
 use Rattle.ham_replay.specs.Replays.{Turn, Refuses, Answers, event_by, event_turn, answer_if, frame_if, query_turn, read_turn, turn_of, played_from, played_first, played_lines, played}
-use Rattle.ham_replay.specs.Claims.{ArePlans, settings_of, setting_by, IsPlayedFaithfully}
+use Rattle.ham_replay.specs.Claims.{ArePlans, settings_of, setting_by, IsPlayedFaithfully, IsPlayedRun}
 
 -- notes of a run that inputs give
 pub record IsMade (o : Schema) (y : Setting) (notes : List Note) : Type 0 where
@@ -152,15 +152,30 @@ there plans n eight some few = elim ((slice_get_cases plans (n - 1)).1) [
   | inr h ↦ absurd (omega (arith, h.0))
 ]
 
-pub faithful : ((o : Schema) (p : Plan) → IsPlanned o p → InputsGiveRuns (rules_of o) (setting_of p)) → ((o : Schema) (p : Plan) → IsPlanned o p → RunsAreFaithful (rules_of o) (setting_of p)) →
-    ((o : Schema) (bytes : List ℕ) → IsReading o bytes (read_of o bytes)) →
-    (o : Schema) (plans : List Plan) (schedule : List ℕ) → ArePlans o plans → IsPlayedFaithfully o (settings_of plans) (played o (settings_of plans) schedule)
+pub all_runs : ((o : Schema) (p : Plan) → IsPlanned o p → InputsGiveRuns (rules_of o) (setting_of p)) → ((o : Schema) (bytes : List ℕ) → IsReading o bytes (read_of o bytes)) →
+    (o : Schema) (plans : List Plan) (schedule : List ℕ) → ArePlans o plans → IsPlayedRun o plans (played o (settings_of plans) schedule)
 unfolding settings_of
-faithful give law readings o plans schedule are n is =
+all_runs give readings o plans schedule are n is =
     let h = all_made o (settings_of plans) (readings o) 1 (lines_of schedule) n is in
     let p = there plans n are.eight h.some h.few in
     let planned = are.planned n p.0 h.some h.few p.1 in
     let same : settings_of plans n ≡ setting_of p.0 = ap setting_by p.1 in
     let run : IsRun (rules_of o) (setting_of p.0) (played o (settings_of plans) schedule).notes =
     subst (IsRun (rules_of o) (setting_of p.0)) (sym (h.made.is ∙ ap (λ (y : Setting). run_of (rules_of o) y h.made.inputs) same)) ((give o p.0 planned).0 h.made.inputs) in
-    subst (λ (y : Setting). IsFaithful (rules_of o) y (played o (settings_of plans) schedule).notes) (sym same) (law o p.0 planned _ run)
+    record {
+      some = h.some;
+      few = h.few;
+      plan = p.0;
+      planned = planned;
+      replicas = are.replicas n p.0 h.some h.few p.1;
+      setting = same;
+      run = subst (λ (y : Setting). IsRun (rules_of o) y (played o (settings_of plans) schedule).notes) (sym same) run;
+    }
+
+pub faithful : ((o : Schema) (p : Plan) → IsPlanned o p → InputsGiveRuns (rules_of o) (setting_of p)) → ((o : Schema) (p : Plan) → IsPlanned o p → RunsAreFaithful (rules_of o) (setting_of p)) →
+    ((o : Schema) (bytes : List ℕ) → IsReading o bytes (read_of o bytes)) →
+    (o : Schema) (plans : List Plan) (schedule : List ℕ) → ArePlans o plans → IsPlayedFaithfully o (settings_of plans) (played o (settings_of plans) schedule)
+faithful give law readings o plans schedule are n is =
+    let h = all_runs give readings o plans schedule are n is in
+    let run = subst (λ (y : Setting). IsRun (rules_of o) y (played o (settings_of plans) schedule).notes) h.setting h.run in
+    subst (λ (y : Setting). IsFaithful (rules_of o) y (played o (settings_of plans) schedule).notes) (sym h.setting) (law o h.plan h.planned _ run)

@@ -6,6 +6,7 @@ use Rattle.ham_plan.specs.Plans.{Plan}
 use Rattle.ham_turns.specs.Settings.{Setting, setting_of, rules_of}
 use Rattle.ham_laws.specs.Constrained.{IsPlanned}
 use Rattle.ham_runs.specs.Headline.{IsFaithful}
+use Rattle.ham_runs.specs.Runs.{IsRun}
 use Rattle.ham_replay.specs.Replays.{Played}
 
 -- the N-th plan has N replicas, the object's methods, and is sound
@@ -29,3 +30,16 @@ settings_of plans n = setting_by (slice_get plans (n - 1))
 -- the run of a world that was made is faithful in its setting
 abbrev pub IsPlayedFaithfully : Schema → (ℕ → Setting) → Played → Type 0
 IsPlayedFaithfully o settings p = (n : ℕ) → p.replicas ≡ Some n → IsFaithful (rules_of o) (settings n) p.notes
+
+-- the notes of a world that was made are a run in its setting, of 1 to MAX_REPLICAS replicas
+pub record IsRunOf (o : Schema) (plans : List Plan) (p : Played) (n : ℕ) : Type 0 where
+  pub some : 1 ≤ n
+  pub few : n ≤ MAX_REPLICAS
+  pub plan : Plan
+  pub planned : IsPlanned o plan
+  pub replicas : plan.replicas ≡ n
+  pub setting : settings_of plans n ≡ setting_of plan
+  pub run : IsRun (rules_of o) (settings_of plans n) p.notes
+
+abbrev pub IsPlayedRun : Schema → List Plan → Played → Type 0
+IsPlayedRun o plans p = (n : ℕ) → p.replicas ≡ Some n → IsRunOf o plans p n

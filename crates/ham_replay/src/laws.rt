@@ -8,7 +8,7 @@ ghost use Rattle.ham_turns.specs.declared.event.Event.TheVariants as events;
 ghost use Rattle.ham_runs.specs.Runs.{Note};
 ghost use Rattle.ham_world.specs.Worlds.{refusal_of};
 ghost use Rattle.ham_replay.specs.Replays.{played, event_turn};
-ghost use Rattle.ham_replay.specs.Claims.{ArePlans, IsPlayedFaithfully, settings_of};
+ghost use Rattle.ham_replay.specs.Claims.{ArePlans, IsPlayedFaithfully, IsPlayedRun, settings_of};
 
 use ham_grammar::laws::readings_are_computed;
 use ham_runs::laws::{inputs_give_runs, runs_are_faithful};
@@ -20,6 +20,14 @@ pub fn replays_are_faithful()
     readings_are_computed();
     inputs_give_runs();
     runs_are_faithful();
+}
+
+/// The notes of what a schedule makes are a run, under the plan for as many replicas as it names.
+pub fn replays_are_runs()
+    ensures { (o : Schema) (plans : List Plan) (schedule : List ℕ) → ArePlans o plans → IsPlayedRun o plans (played o (settings_of plans) schedule) }
+{
+    readings_are_computed();
+    inputs_give_runs();
 }
 
 /// However frames are cut, they are answered alike, and leave one run.

@@ -7,10 +7,10 @@ pub mod laws;
 mod play;
 mod refusals;
 mod taking;
-mod turn;
+pub mod turn;
 
 pub use asking::compared;
 pub use end::{LineRefusal, Refusal, ReplayEnd};
 pub use ham_grammar::{Line, LineFault, Query, print_line, read_line};
-pub use play::{Plans, replay};
+pub use play::{Plans, plan_for, replay};
 pub use refusals::{reason_of, refusal_text};

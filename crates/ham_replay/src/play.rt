@@ -165,7 +165,7 @@ fn play_world<K: Sink>(
 }
 
 /// The plan for so many replicas.
-fn plan_for<'a>(object: &Object, plans: &'a Plans, count: u8) -> &'a Plan
+pub fn plan_for<'a>(object: &Object, plans: &'a Plans, count: u8) -> &'a Plan
     requires plans { ArePlans object.now plans.now.at }
     requires some { 1 ≤ count }
     requires most { count ≤ MAX_REPLICAS }

@@ -15,7 +15,7 @@ use std::alloc::Global;
 
 /// Takes one line: an event steps the world, a query reads it. The answers are put last, a line each.
 #[tactic(auto, unfolding(crate::specs::Replays::turn_of))]
-pub(crate) fn turn(
+pub fn turn(
     alloc: Global,
     world: &mut World,
     line: &[u8],

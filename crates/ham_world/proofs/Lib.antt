@@ -16,3 +16,4 @@ pub mod Reached
 pub mod Looked
 pub mod Requested
 pub mod Compared
+pub mod Acted

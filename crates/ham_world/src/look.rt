@@ -3,7 +3,8 @@
 ghost use Rattle.std.specs.Prelude.{◌≡◌, ◌-◌, length, slice_get, MatchOption, None, Some};
 ghost use Rattle.ham_turns.specs.Settings.{IsReplica};
 ghost use Rattle.ham_turns.specs.Words.{numbered};
-ghost use Rattle.ham_runs.specs.Runs.{log_of, on_link};
+ghost use Rattle.ham_plan.specs.Lists.{In};
+ghost use Rattle.ham_runs.specs.Runs.{execution, log_of, on_link};
 ghost use Rattle.ham_world.specs.Worlds as worlds;
 ghost use Rattle.ham_world.specs.Parted.{setting_at, run_at, IsNoted, Agrees};
 
@@ -12,9 +13,9 @@ use crate::parts::Parts;
 use crate::refuse::{is_sent, link_at};
 use ham_replica::Replica;
 use ham_resend::Asked;
-use ham_runs::laws::inputs_give_runs;
+use ham_runs::laws::{inputs_give_runs, plans_are_settings};
 use ham_state::State;
-use ham_syntax::Place;
+use ham_syntax::{Act, Place};
 use ham_turns::laws::plans_are_tabled;
 
 /// How many frames were sent on a link.
@@ -60,6 +61,22 @@ pub(crate) fn log(parts: &Parts, replica: u8) -> &[Place]
     ensures { result.now ≡ log_of (run_at parts.now) replica }
 {
     replica_at(parts, replica).log()
+}
+
+/// The act of a call that a replica logged.
+pub(crate) fn act(parts: &Parts, replica: u8, place: &Place) -> Act
+    requires kept { IsNoted parts.now }
+    requires keeps { Agrees parts.now }
+    requires replica { IsReplica (setting_at parts.now) replica }
+    requires logged { In place.now (log_of (run_at parts.now) replica) }
+    ensures { result ≡ (execution (run_at parts.now)).act place.now }
+{
+    plans_are_settings();
+    inputs_give_runs();
+    match replica_at(parts, replica).call_at(place) {
+        Some(call) => call.act,
+        None => unreachable!(),
+    }
 }
 
 /// The state of a replica.

@@ -4,7 +4,8 @@ ghost use Rattle.std.specs.Prelude.{◌≡◌, true, false, Err, IfOk, length, m
 ghost use Rattle.ham_laws.specs.Constrained.{IsPlanned};
 ghost use Rattle.ham_turns.specs.Settings.{IsReplica, setting_of};
 ghost use Rattle.ham_turns.specs.Words.{numbered};
-ghost use Rattle.ham_runs.specs.Runs.{log_of, on_link};
+ghost use Rattle.ham_plan.specs.Lists.{In};
+ghost use Rattle.ham_runs.specs.Runs.{execution, log_of, on_link};
 ghost use Rattle.ham_world.specs.declared.refusal.StepRefusal.TheVariants as refusals;
 ghost use Rattle.ham_world.specs.Worlds as worlds;
 
@@ -16,7 +17,7 @@ use ham_lists::{Items, NoMemory};
 use ham_plan::Plan;
 use ham_resend::Asked;
 use ham_state::State;
-use ham_syntax::{Object, Place};
+use ham_syntax::{Act, Object, Place};
 use ham_turns::Event;
 use std::alloc::Global;
 use std::marker::Model;
@@ -135,6 +136,16 @@ impl World {
         ensures { result.now ≡ log_of self.now.notes replica }
     {
         look::log(&self.parts, replica)
+    }
+
+    /// The act of a call in the log of a replica: the one with which it was decided.
+    pub fn act(&self, replica: u8, place: &Place) -> Act
+        requires going { self.now.stopped ≡ false }
+        requires replica { IsReplica (setting_of self.now.plan) replica }
+        requires logged { In place.now (log_of self.now.notes replica) }
+        ensures { result ≡ (execution self.now.notes).act place.now }
+    {
+        look::act(&self.parts, replica, place)
     }
 
     /// The state of a replica, which was opened for the object.

@@ -1,13 +1,22 @@
-use Rattle.std.proofs.Common.{◌≡◌, ◌++◌, ◌∷◌, ◌∙◌, ℕ, List, ap, subst, map}
+use Rattle.std.proofs.Common.{◌≡◌, ◌++◌, ◌∷◌, ◌∙◌, ℕ, List, ap, subst, map, Result, Ok, Err}
 use Rattle.std.specs.Fmt.{decimal}
 use Rattle.std.specs.Prelude.{OnOk, codes}
+use Rattle.ham_text.specs.Numbers.{AreNumbers}
 use Rattle.ham_text.specs.Written.{spaced}
 use Rattle.ham_records.proofs.Written.{call_written}
 use Rattle.ham_syntax.specs.Objects.{method_name}
 use Rattle.ham_records.proofs.writer.push_logged.Goals as goal
 
-pub returns : goal.returns
-returns c =
+-- what is so of either result
+on_ok : {A E P : Type 0} (r : Result A E) → P → OnOk r P
+on_ok (Ok a) p = p
+on_ok (Err e) p = tt
+
+pub returns-clause-small : goal.returns-clause-small
+returns-clause-small c = on_ok c.push_line_end.result (subst AreNumbers c.items.ensures.value c.in_ok-push_numbers.ensures.small)
+
+pub returns-clause-text : goal.returns-clause-text
+returns-clause-text c =
     let e = c.args.logged.now in
     subst (λ (t : List ℕ). OnOk c.push_line_end.result (c.push_line_end.new.text ≡ t))
     (call_written (codes "call") (decimal e.place.lane) (decimal e.place.number) (method_name c.args.object.now e.act.method) (map decimal e.act.args)
