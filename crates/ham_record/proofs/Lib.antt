@@ -1,0 +1,4 @@
+pub mod Steps
+pub mod Lined
+pub mod Fitting
+pub mod Accepted
