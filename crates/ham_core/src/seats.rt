@@ -1,9 +1,10 @@
 //! The seats of a node, and the shares of its ledger.
 
-ghost use Rattle.std.specs.Prelude.{◌≡◌, ℕ, ◌+◌, ◌↔◌, IfSome, None, vec_len, sum_by};
+ghost use Rattle.std.specs.Prelude.{◌≡◌, ℕ, ◌+◌, ◌↔◌, [], IfSome, None, vec_len, sum_by};
 ghost use Rattle.ham_syntax.specs.Objects.{Schema};
 ghost use Rattle.ham_plan.specs.Plans.{Plan};
 
+use std::marker::Brand;
 use std::sync::ledger::{Ledger, Share};
 
 /// A ledger of a node: its object, its plan, and which replica it is.
@@ -13,6 +14,15 @@ pub trait Home: Ledger {
     ghost plan: { Plan };
 
     ghost me: { ℕ };
+}
+
+// What stands here is never read: a call with a `Brand` says which object, plan and replica it is for.
+impl Home for Brand {
+    ghost object = { record { relations = []; counters = []; invariants = []; methods = [] } };
+
+    ghost plan = { record { methods = 0; replicas = 1; conflict = []; depends = []; least = [] } };
+
+    ghost me = { 1 };
 }
 
 /// The right of one worker to enter. Its share's amount is the number of the entries that it made.

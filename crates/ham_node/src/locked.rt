@@ -125,6 +125,13 @@ impl<'a, R: Wait, L: Home> Locked<'a, R, L> {
         }
     }
 
+    /// How often it answered that the node is or was stopped.
+    pub fn stops(&self) -> u64
+        ensures { result ≡ self.now.tally.stops }
+    {
+        self.tally.stops
+    }
+
     /// The seat.
     pub fn seat(self) -> Seat<L>
         ensures { result ≡ self.entry.seat }
