@@ -1,124 +1,180 @@
--- A command whose files are allowed ends well, unless something outside fails.
-use Rattle.std.proofs.Common.{◌≡◌, ℕ, List, Option, Some, None, inl, inr, refl, sym, ap, subst, ◌∙◌}
-use Rattle.std.specs.Prelude.{IsSome, IfSome}
+-- A command whose files allow it ends well, unless something outside fails.
+use Rattle.std.proofs.Common.{◌≡◌, ℕ, ◌<◌, List, length, Option, Some, None, Result, Ok, Err, ◌⊎◌, inl, inr, refl, sym, ap, subst, ◌∙◌, arith}
+use Rattle.std.specs.Prelude.{IfSome, option_map}
+use Rattle.ham_syntax.specs.declared.limits.TheConstants.{MAX_OBJECT_BYTES}
 use Rattle.ham_syntax.specs.Objects.{Schema}
 use Rattle.ham_bytes.specs.declared.shelf.File.{File}
 use Rattle.ham_bytes.specs.Causes.{Rose}
-use Rattle.ham_objfile.specs.Texts.{IsAnsweredOnce}
+use Rattle.ham_forms.specs.declared.fault.FileFault.{FileFault}
+use Rattle.ham_objfile.specs.Texts.{IsText, IsFirstFault, IsAnsweredOnce}
 use Rattle.ham_rules.specs.declared.claim.Claim.{Claim}
-use Rattle.ham_derive.specs.Texts.{text_of}
-use Rattle.ham_witness.specs.ExampleText.{example_text}
+use Rattle.ham_plan.specs.Plans.{Plan}
+use Rattle.ham_turns.specs.Settings.{Setting, setting_of}
+use Rattle.ham_replay.specs.declared.end.Refusal.{Refusal}
 use Rattle.ham_replay.specs.Replays.{Played}
-use Rattle.ham_tables.specs.TablesText.{tables_text}
-use Rattle.ham_plain.specs.Written.{plain_of}
+use Rattle.ham_world.specs.declared.refusal.StepRefusal.{StepRefusal}
+use Rattle.ham_bulk.specs.Scripts.{generated}
+use Rattle.ham_bulk.specs.ScriptTexts.{refusal_in}
+use Rattle.ham_cli.specs.declared.command.Drawing.{Drawing}
 use Rattle.ham_cli.specs.declared.exit.Exit.{Exit}
 use Rattle.ham_cli.specs.declared.exit.Exit.TheVariants as exits
-use Rattle.ham_cli.specs.declared.named.NamedClaim.{NamedClaim}
 use Rattle.ham_cli.specs.Exits.{IsCounted}
-use Rattle.ham_cli.specs.Commands.{Asked, Replays, Normalizes, Checks, Derives, Exemplifies, Tabulates, Bulks, Scripts, asked}
-use Rattle.ham_syntax.specs.declared.limits.TheConstants.{MAX_OBJECT_BYTES, MAX_SCHEDULE_BYTES}
-use Rattle.ham_cli.specs.Files.{HasFile}
-use Rattle.ham_cli.specs.ReplayEnds.{HaveOneSetting, IsPlayed, IsPlayedOnce, EndsAtSchedule}
-use Rattle.ham_turns.specs.Settings.{setting_of}
-use Rattle.ham_bulk.specs.Scripted.{scripted, bulked}
-use Rattle.ham_cli.specs.BulkEnds.{EndsWithBulk, EndsWithScript, IsWhole}
-use Rattle.ham_cli.specs.CheckEnds.{IsGoodText, ok_line, EndsWith, EndsAtFile}
-use Rattle.ham_cli.specs.DeriveEnds.{claim_named, none_line, EndsWithClaim, EndsWithNames}
-use Rattle.ham_cli.specs.ExampleEnds.{derivable_line, none_shown_line, EndsWithCase, EndsWithNamed}
-use Rattle.ham_cli.specs.TablesEnds.{EndsWithPlan}
-use Rattle.ham_cli.specs.Writes.{PutsMade}
-use Rattle.ham_cli.specs.Top.{EndsAs, IsAllowed, Completes}
-use Rattle.ham_cli.proofs.Drawn.{drawn_fine}
-use Rattle.ham_cli.proofs.Fine.{Fine, IsCalm, put_fine, made_fine, one_file, not_too_long, stops_fine, from_fine}
+use Rattle.ham_cli.specs.Commands.{Asked, Normalizes, Replays, Records, Audits, Checks, Derives, Exemplifies, Tabulates, Bulks, Scripts, Beside, beside}
+use Rattle.ham_cli.specs.Files.{HasFile, HasBeside, IsTooLong, Stops, EndsBeside}
+use Rattle.ham_cli.specs.Told.{TellsWhole, Tells}
+use Rattle.ham_cli.specs.Plans.{IsPlanFor, HaveOneSetting}
+use Rattle.ham_cli.specs.ClaimAnswers.{claim_named, AnswersDerive, AnswersExample}
+use Rattle.ham_cli.specs.PlayAnswers.{exit_of_refused, IsPlayedOnce, IsWhole}
+use Rattle.ham_cli.specs.Answers.{Answers, IsMet}
+use Rattle.ham_cli.specs.Top.{EndsWith, EndsOn, EndsRead, Ends, IsAllowed, Completes}
+use Rattle.ham_cli.proofs.Telling.{from_tells}
 
--- what is refused isn't done
-not_both : {A : Type 0} (x : Option A) → x ≡ None → IsSome x → ⊥
-not_both None e h = absurd cc
-not_both (Some a) e h = absurd cc
+abbrev pub Fine : Exit → Type 0
+Fine exit = (exit ≡ exits.Done) ⊎ (exit ≡ exits.NoMemory)
 
--- the schedule's lines are all allowed, so a replay doesn't end before their end but for a fault
-at_schedule : IsPlayedOnce → (files : List File) (name : List ℕ) (o : Schema) (p : Played) (before now : Option (List ℕ)) (exit : Exit) → IsPlayed o files name p → p.refused ≡ None
-    → IsCalm exit → EndsAtSchedule o files name before now exit → Fine exit
-at_schedule once files name o p before now exits.Done h none calm e = inl refl
-at_schedule once files name o p before now exits.Usage h none calm e = absurd e
-at_schedule once files name o p before now exits.ObjectRefused h none calm e = absurd e
-at_schedule once files name o p before now exits.ScheduleRefused h none calm e = absurd (not_both e.0.refused (ap (λ (x : Played). x.refused) (once o files name e.0 p e.1.is h) ∙ none) e.2)
-at_schedule once files name o p before now exits.ReadFault h none calm e = absurd (calm.reads refl)
-at_schedule once files name o p before now exits.WriteFault h none calm e = absurd (calm.writes refl)
-at_schedule once files name o p before now exits.NoMemory h none calm e = inr refl
-at_schedule once files name o p before now exits.TooLong h none calm e = absurd (not_too_long files name MAX_SCHEDULE_BYTES h.schedule h.file e.0)
-at_schedule once files name o p before now exits.DerivationRefused h none calm e = absurd e
+-- neither the shelf nor the sink failed
+pub record IsCalm (exit : Exit) : Type 0 where
+  pub reads : exit ≡ exits.ReadFault → ⊥
+  pub writes : exit ≡ exits.WriteFault → ⊥
 
--- the file is a good derivation's text, so it isn't refused
-with_bytes : (o p : Schema) (bytes b : List ℕ) (before now : Option (List ℕ)) (exit : Exit) → o ≡ p → bytes ≡ b → IsGoodText o bytes → IsCalm exit → EndsWith p b before now exit → Fine exit
-with_bytes o p bytes b before now exit same are good calm h = elim h [
-  | inl r ↦ inr r.0
-  | inr k ↦ elim k [
-    | inl g ↦ put_fine before now ok_line exits.Done exit calm refl g.1
-    | inr r ↦ absurd (r.1.none (subst (λ (x : List ℕ). IsGoodText p x) are (subst (λ (x : Schema). IsGoodText x bytes) same good)))
+-- ---- what is met is answered by Done
+
+done_of : (r s : Option Refusal) (exit : Exit) → exit ≡ exit_of_refused r → r ≡ s → s ≡ None → exit ≡ exits.Done
+done_of r s exit e same none = e ∙ ap exit_of_refused (same ∙ none)
+
+derive_done : (o : Schema) (found : Option Claim) (claim : Claim) (exit : Exit) (text : List ℕ) → found ≡ Some claim → AnswersDerive o found exit text → exit ≡ exits.Done
+derive_done o None claim exit text is h = absurd cc
+derive_done o (Some c) claim exit text is h = elim h [ inl d ↦ let told = d.2 in told.0 | inr d ↦ let told = d.2 in told.0 ]
+
+example_done : (o : Schema) (found : Option Claim) (claim : Claim) (exit : Exit) (text : List ℕ) → found ≡ Some claim → AnswersExample o found exit text → exit ≡ exits.Done
+example_done o None claim exit text is h = absurd cc
+example_done o (Some c) claim exit text is h = elim h [
+  | inl d ↦ let told = d.2 in told.0
+  | inr k ↦ elim k [ inl d ↦ let told = d.1 in told.0 | inr d ↦ let told = d.1 in told.0 ]
+]
+
+-- no line of a script is refused under one derived plan, so none is under another
+whole_script : HaveOneSetting → (o : Schema) (d : Drawing) (p : Plan) → IsPlanFor o d.replicas p → IsWhole o d → refusal_in (generated o (setting_of p) d.seed d.rounds) ≡ None
+whole_script one o d p k whole = no_refusal _ _ (ap (λ (y : Setting). (generated o y d.seed d.rounds).refused) (one o d.replicas p whole.0 k whole.1) ∙ whole.2)
+  where
+    no_refusal : (es : Option StepRefusal) (f : StepRefusal → Refusal) → es ≡ None → option_map f es ≡ None
+    no_refusal None f none = refl
+    no_refusal (Some why) f none = absurd cc
+
+is_done : IsPlayedOnce → HaveOneSetting → (o : Schema) (asked : Asked) (bytes : List ℕ) (exit : Exit) (text : List ℕ) → IsMet o asked bytes → Answers o asked bytes exit text → exit ≡ exits.Done
+is_done once one o Normalizes bytes exit text met h = h.0
+is_done once one o (Replays schedule) bytes exit text met h = let told = h.2 in done_of h.0.refused met.0.refused exit told.0 (ap (λ (p : Played). p.refused) (once o bytes h.0 met.0 h.1.is met.1)) met.2
+is_done once one o (Records schedule) bytes exit text met h = let told = h.2 in done_of h.0.refused met.0.refused exit told.0 (ap (λ (p : Played). p.refused) (once o bytes h.0 met.0 h.1 met.1)) met.2
+is_done once one o (Audits file) bytes exit text met h = elim h [ inl d ↦ let told = d.2 in told.0 | inr d ↦ absurd (d.1.none met) ]
+is_done once one o (Checks file) bytes exit text met h = elim h [ inl d ↦ let told = d.1 in told.0 | inr d ↦ absurd (d.1.none met) ]
+is_done once one o (Derives claim) bytes exit text met h = derive_done o (claim_named o claim) met.0 exit text met.1 h
+is_done once one o (Exemplifies claim) bytes exit text met h = example_done o (claim_named o claim) met.0 exit text met.1 h
+is_done once one o (Tabulates replicas) bytes exit text met h = let told = h.2 in told.0
+is_done once one o (Bulks drawing) bytes exit text met h = let told = h.2 in done_of _ None exit told.0 (whole_script one o drawing h.0 h.1.plan met) refl
+is_done once one o (Scripts drawing) bytes exit text met h = let told = h.2 in done_of _ None exit told.0 (whole_script one o drawing h.0 h.1.plan met) refl
+
+-- ---- what is told
+
+whole_fine : (Says : Exit → List ℕ → Type 0) (before now : Option (List ℕ)) (exit : Exit) → IsCalm exit → ((e : Exit) (t : List ℕ) → Says e t → e ≡ exits.Done) → TellsWhole Says before now exit → Fine exit
+whole_fine Says before now exits.Done calm done h = inl refl
+whole_fine Says before now exits.Usage calm done h = inl (done _ h.0 h.1)
+whole_fine Says before now exits.ObjectRefused calm done h = inl (done _ h.0 h.1)
+whole_fine Says before now exits.ScheduleRefused calm done h = inl (done _ h.0 h.1)
+whole_fine Says before now exits.ReadFault calm done h = absurd (calm.reads refl)
+whole_fine Says before now exits.WriteFault calm done h = absurd (calm.writes refl)
+whole_fine Says before now exits.NoMemory calm done h = inr refl
+whole_fine Says before now exits.TooLong calm done h = inl (done _ h.0 h.1)
+whole_fine Says before now exits.DerivationRefused calm done h = inl (done _ h.0 h.1)
+whole_fine Says before now exits.AuditRefused calm done h = inl (done _ h.0 h.1)
+
+tells_fine : (Says : Exit → List ℕ → Type 0) (before now : Option (List ℕ)) (exit : Exit) → IsCalm exit → ((e : Exit) (t : List ℕ) → Says e t → e ≡ exits.Done) → Tells Says before now exit → Fine exit
+tells_fine Says before now exit calm done h = elim (from_tells Says before now exit h) [ inl e ↦ inr e | inr w ↦ whole_fine Says before now exit calm done w ]
+
+with_fine : IsPlayedOnce → HaveOneSetting → (o : Schema) (asked : Asked) (bytes : List ℕ) (before now : Option (List ℕ)) (exit : Exit) → IsCalm exit → IsMet o asked bytes → EndsWith o asked bytes before now exit → Fine exit
+with_fine once one o Normalizes bytes before now exit calm met h = whole_fine _ before now exit calm (λ e t s. is_done once one o Normalizes bytes e t met s) h
+with_fine once one o (Replays schedule) bytes before now exit calm met h = tells_fine _ before now exit calm (λ e t s. is_done once one o (Replays schedule) bytes e t met s) h
+with_fine once one o (Records schedule) bytes before now exit calm met h = tells_fine _ before now exit calm (λ e t s. is_done once one o (Records schedule) bytes e t met s) h.0
+with_fine once one o (Audits file) bytes before now exit calm met h = whole_fine _ before now exit calm (λ e t s. is_done once one o (Audits file) bytes e t met s) h
+with_fine once one o (Checks file) bytes before now exit calm met h = whole_fine _ before now exit calm (λ e t s. is_done once one o (Checks file) bytes e t met s) h
+with_fine once one o (Derives claim) bytes before now exit calm met h = whole_fine _ before now exit calm (λ e t s. is_done once one o (Derives claim) bytes e t met s) h
+with_fine once one o (Exemplifies claim) bytes before now exit calm met h = whole_fine _ before now exit calm (λ e t s. is_done once one o (Exemplifies claim) bytes e t met s) h
+with_fine once one o (Tabulates replicas) bytes before now exit calm met h = whole_fine _ before now exit calm (λ e t s. is_done once one o (Tabulates replicas) bytes e t met s) h
+with_fine once one o (Bulks drawing) bytes before now exit calm met h = tells_fine _ before now exit calm (λ e t s. is_done once one o (Bulks drawing) bytes e t met s) h
+with_fine once one o (Scripts drawing) bytes before now exit calm met h = tells_fine _ before now exit calm (λ e t s. is_done once one o (Scripts drawing) bytes e t met s) h.0
+
+-- ---- files
+
+same_some : (a b : List ℕ) → Some a ≡ Some b → a ≡ b
+same_some a b e = cc
+
+-- a name has one file
+one_file : (files : List File) (name : List ℕ) (limit : ℕ) (a b : List ℕ) → HasFile files name limit a → HasFile files name limit b → a ≡ b
+one_file files name limit a b h k = same_some a b (sym h.holds ∙ k.holds)
+
+one_beside : (files : List File) (file : Option Beside) (a b : List ℕ) → HasBeside files file a → HasBeside files file b → a ≡ b
+one_beside files None a b h k = h ∙ sym k
+one_beside files (Some file) a b h k = one_file files file.name file.limit a b h k
+
+not_too_long : (files : List File) (name : List ℕ) (limit : ℕ) (a : List ℕ) → HasFile files name limit a → IsTooLong files name limit → ⊥
+not_too_long files name limit a h k =
+    let same : a ≡ k.0 = same_some a k.0 (sym h.holds ∙ k.1) in
+    let long : limit < length a = subst (λ (x : List ℕ). limit < length x) (sym same) k.2 in
+    omega (arith, h.within)
+
+stops_fine : (files : List File) (name : List ℕ) (limit : ℕ) (a : List ℕ) (before now : Option (List ℕ)) (exit : Exit) → IsCalm exit → HasFile files name limit a → Stops files name limit before now exit → Fine exit
+stops_fine files name limit a before now exits.Done calm has h = absurd h
+stops_fine files name limit a before now exits.Usage calm has h = absurd h
+stops_fine files name limit a before now exits.ObjectRefused calm has h = absurd h
+stops_fine files name limit a before now exits.ScheduleRefused calm has h = absurd h
+stops_fine files name limit a before now exits.ReadFault calm has h = absurd (calm.reads refl)
+stops_fine files name limit a before now exits.WriteFault calm has h = absurd h
+stops_fine files name limit a before now exits.NoMemory calm has h = inr refl
+stops_fine files name limit a before now exits.TooLong calm has h = absurd (not_too_long files name limit a has h.0)
+stops_fine files name limit a before now exits.DerivationRefused calm has h = absurd h
+stops_fine files name limit a before now exits.AuditRefused calm has h = absurd h
+
+beside_fine : (files : List File) (file : Option Beside) (a : List ℕ) (before now : Option (List ℕ)) (exit : Exit) → IsCalm exit → HasBeside files file a → EndsBeside files file before now exit → Fine exit
+beside_fine files None a before now exit calm has h = absurd h
+beside_fine files (Some file) a before now exit calm has h = stops_fine files file.name file.limit a before now exit calm has h
+
+-- ---- objects
+
+not_both : (o : Schema) (e : FileFault) (r s : Result Schema FileFault) → r ≡ Ok o → s ≡ Err e → r ≡ s → ⊥
+not_both o e r s h k same = absurd cc
+
+no_fault : IsAnsweredOnce → (text : List ℕ) (o : Schema) (e : FileFault) → IsText text o → IsFirstFault text e → ⊥
+no_fault one text o e h k = not_both o e (Ok o) (Err e) refl refl (one text (Ok o) (Err e) h k)
+
+same_ok : (o p : Schema) (r s : Result Schema FileFault) → r ≡ Ok o → s ≡ Ok p → r ≡ s → o ≡ p
+same_ok o p r s h k e = cc
+
+same_object : IsAnsweredOnce → (text : List ℕ) (o p : Schema) → IsText text o → IsText text p → o ≡ p
+same_object one text o p h k = same_ok o p (Ok o) (Ok p) refl refl (one text (Ok o) (Ok p) h k)
+
+-- ---- commands
+
+module _ (answered : IsAnsweredOnce) (once : IsPlayedOnce) (one : HaveOneSetting) (files : List File) (object : List ℕ) (asked : Asked) (before now : Option (List ℕ)) (exit : Exit) (calm : IsCalm exit) (allowed : IsAllowed object asked files) where
+  on_fine : (o : Schema) → allowed.o ≡ o → EndsOn o asked files before now exit → Fine exit
+  on_fine o same h = elim h [
+    | inl s ↦ beside_fine files (beside asked) allowed.bytes before now exit calm allowed.beside s
+    | inr b ↦ with_fine once one o asked b.0 before now exit calm
+        (subst (λ (x : List ℕ). IsMet o asked x) (one_beside files (beside asked) allowed.bytes b.0 allowed.beside b.1) (subst (λ (x : Schema). IsMet x asked allowed.bytes) same allowed.met)) b.2
   ]
-]
 
-at_file : (files : List File) (name bytes : List ℕ) (o p : Schema) (before now : Option (List ℕ)) (exit : Exit) → o ≡ p → HasFile files name MAX_OBJECT_BYTES bytes → IsGoodText o bytes → IsCalm exit → EndsAtFile p files name before now exit → Fine exit
-at_file files name bytes o p before now exit same has good calm h = elim h [
-  | inl s ↦ stops_fine files name MAX_OBJECT_BYTES bytes before now exit calm has s
-  | inr b ↦ with_bytes o p bytes b.0 before now exit same (one_file files name MAX_OBJECT_BYTES MAX_OBJECT_BYTES bytes b.0 has b.1) good calm b.2
-]
-
--- the names are methods, so the claim isn't refused
-with_claim : (p : Schema) (claim : Claim) (before now : Option (List ℕ)) (exit : Exit) → IsCalm exit → EndsWithClaim p claim before now exit → Fine exit
-with_claim p claim before now exit calm h = elim h [
-  | inl r ↦ inr r.0
-  | inr k ↦ elim k [
-    | inl d ↦ made_fine before now (text_of p claim d.0) exit calm d.2
-    | inr u ↦ made_fine before now (none_line u.0) exit calm u.2
-  ]
-]
-
-with_names : (o p : Schema) (named : NamedClaim) (claim : Claim) (before now : Option (List ℕ)) (exit : Exit) → o ≡ p → claim_named o named ≡ Some claim → IsCalm exit → EndsWithNames p (claim_named p named) before now exit → Fine exit
-with_names o p named claim before now exit same is calm h =
-    let there : claim_named p named ≡ Some claim = subst (λ (x : Schema). claim_named x named ≡ Some claim) same is in
-    with_claim p claim before now exit calm (subst (λ (x : Option Claim). EndsWithNames p x before now exit) there h)
-
-with_case : (p : Schema) (claim : Claim) (before now : Option (List ℕ)) (exit : Exit) → IsCalm exit → EndsWithCase p claim before now exit → Fine exit
-with_case p claim before now exit calm h = elim h [
-  | inl r ↦ inr r.0
-  | inr k ↦ elim k [
-    | inl s ↦ made_fine before now (example_text p claim s.case) exit calm s.puts
-    | inr n ↦ elim n [
-      | inl d ↦ put_fine before now derivable_line exits.Done exit calm refl d.puts
-      | inr u ↦ put_fine before now none_shown_line exits.Done exit calm refl u.puts
+  read_fine : (text : List ℕ) → IsText text allowed.o → EndsRead text asked files before now exit → Fine exit
+  read_fine text is h = elim h [
+    | inl r ↦ inr r.0
+    | inr k ↦ elim k [
+      | inl f ↦ absurd (no_fault answered text allowed.o f.0 is f.1)
+      | inr o ↦ on_fine o.0 (same_object answered text allowed.o o.0 is o.1) o.2
     ]
   ]
-]
 
-with_case_named : (o p : Schema) (named : NamedClaim) (claim : Claim) (before now : Option (List ℕ)) (exit : Exit) → o ≡ p → claim_named o named ≡ Some claim → IsCalm exit → EndsWithNamed p (claim_named p named) before now exit → Fine exit
-with_case_named o p named claim before now exit same is calm h =
-    let there : claim_named p named ≡ Some claim = subst (λ (x : Schema). claim_named x named ≡ Some claim) same is in
-    with_case p claim before now exit calm (subst (λ (x : Option Claim). EndsWithNamed p x before now exit) there h)
-
-ended_by : IsAnsweredOnce → IsPlayedOnce → HaveOneSetting → (files : List File) (asks : Asked) (before now : Option (List ℕ)) (exit : Exit) → IsCalm exit → EndsAs (Some asks) files before now exit → IsAllowed asks files → Fine exit
-ended_by one once setting files (Replays object schedule) before now exit calm ends a =
-    from_fine one files object a.0 before now exit (λ o. EndsAtSchedule o files schedule before now exit) calm a.1 (λ p same e. at_schedule once files schedule p a.2.0 before now exit (subst (λ (x : Schema). IsPlayed x files schedule a.2.0) same a.2.1) a.2.2 calm e) ends
-ended_by one once setting files (Normalizes object) before now exit calm ends a =
-    from_fine one files object a.0 before now exit (λ o. PutsMade before now (plain_of o) exits.Done exit) calm a.1 (λ p same e. made_fine before now (plain_of p) exit calm e) ends
-ended_by one once setting files (Checks object file) before now exit calm ends a =
-    from_fine one files object a.0 before now exit (λ o. EndsAtFile o files file before now exit) calm a.1 (λ p same e. at_file files file a.2.0 a.0 p before now exit same a.2.1 a.2.2 calm e) ends
-ended_by one once setting files (Derives object named) before now exit calm ends a =
-    from_fine one files object a.0 before now exit (λ o. EndsWithNames o (claim_named o named) before now exit) calm a.1 (λ p same e. with_names a.0 p named a.2.0 before now exit same a.2.1 calm e) ends
-ended_by one once setting files (Exemplifies object named) before now exit calm ends a =
-    from_fine one files object a.0 before now exit (λ o. EndsWithNamed o (claim_named o named) before now exit) calm a.1 (λ p same e. with_case_named a.0 p named a.2.0 before now exit same a.2.1 calm e) ends
-ended_by one once setting files (Tabulates object replicas) before now exit calm ends a =
-    from_fine one files object a.0 before now exit (λ o. EndsWithPlan o replicas before now exit) calm a.1 (λ p same e. made_fine before now (tables_text p e.0) exit calm e.2) ends
-ended_by one once setting files (Bulks object d) before now exit calm ends a =
-    from_fine one files object a.0 before now exit (λ o. EndsWithBulk o d before now exit) calm a.1
-    (λ p same e. drawn_fine setting p d e.0 (bulked p (setting_of e.0) d.seed d.rounds) before now exit e.1.plan refl (subst (λ (x : Schema). IsWhole x d) same a.2) calm e.2) ends
-ended_by one once setting files (Scripts object d) before now exit calm ends a =
-    from_fine one files object a.0 before now exit (λ o. EndsWithScript o d before now exit) calm a.1
-    (λ p same e. drawn_fine setting p d e.0 (scripted p (setting_of e.0) d.seed d.rounds) before now exit e.1.plan refl (subst (λ (x : Schema). IsWhole x d) same a.2) calm e.2) ends
-
-same_asked : (a b : Asked) → Some a ≡ Some b → a ≡ b
-same_asked a b e = cc
+  ends_fine : Ends object asked files before now exit → Fine exit
+  ends_fine h = elim h [
+    | inl s ↦ stops_fine files object MAX_OBJECT_BYTES allowed.text before now exit calm allowed.file s
+    | inr t ↦ read_fine t.0 (subst (λ (x : List ℕ). IsText x allowed.o) (one_file files object MAX_OBJECT_BYTES allowed.text t.0 allowed.file t.1) allowed.is) t.2
+  ]
 
 calm_by : (shelf shelf_now sink sink_now : ℕ) (exit : Exit) → IsCounted shelf shelf_now sink sink_now exit → ¬ (Rose shelf shelf_now) → ¬ (Rose sink sink_now) → IsCalm exit
 calm_by shelf shelf_now sink sink_now exit counted r w = record {
@@ -127,8 +183,8 @@ calm_by shelf shelf_now sink sink_now exit counted r w = record {
 }
 
 -- what a command that ended so completes
-pub completes : IsAnsweredOnce → IsPlayedOnce → HaveOneSetting → (words : List (List ℕ)) (held : Option (List File)) (asks : Asked) (before now : Option (List ℕ)) (shelf shelf_now sink sink_now : ℕ) (exit : Exit) → IsCounted shelf shelf_now sink sink_now exit
-    → asked words ≡ Some asks → IfSome held (λ files. EndsAs (Some asks) files before now exit) → IfSome held (λ files. Completes words files (Rose shelf shelf_now) (Rose sink sink_now) exit)
-completes one once setting words None asks before now shelf shelf_now sink sink_now exit counted is ends = tt
-completes one once setting words (Some files) asks before now shelf shelf_now sink sink_now exit counted is ends = λ others shape allowed r w.
-    ended_by one once setting files asks before now exit (calm_by shelf shelf_now sink sink_now exit counted r w) ends (subst (λ (x : Asked). IsAllowed x files) (same_asked others asks (sym shape ∙ is)) allowed)
+pub completes : IsAnsweredOnce → IsPlayedOnce → HaveOneSetting → (held : Option (List File)) (object : List ℕ) (asked : Asked) (before now : Option (List ℕ)) (shelf shelf_now sink sink_now : ℕ) (exit : Exit) → IsCounted shelf shelf_now sink sink_now exit
+    → IfSome held (λ files. Ends object asked files before now exit) → IfSome held (λ files. Completes object asked files (Rose shelf shelf_now) (Rose sink sink_now) exit)
+completes answered once one None object asked before now shelf shelf_now sink sink_now exit counted ends = tt
+completes answered once one (Some files) object asked before now shelf shelf_now sink sink_now exit counted ends = λ allowed r w.
+    ends_fine answered once one files object asked before now exit (calm_by shelf shelf_now sink sink_now exit counted r w) allowed ends

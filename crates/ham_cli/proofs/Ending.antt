@@ -1,114 +1,118 @@
 -- Ends of commands, put together of what their parts did.
-use Rattle.std.proofs.Common.{◌≡◌, ℕ, ◌≤◌, false, List, length, Option, Some, None, Result, Ok, Err, inl, inr, refl, sym, ap, ◌∙◌, subst}
+use Rattle.std.proofs.Common.{◌≡◌, ℕ, ◌≤◌, true, List, [], ◌∷◌, ◌++◌, length, Option, Some, None, Ok, Err, inl, inr, refl, sym, ap, ◌∙◌, subst}
 use Rattle.std.specs.Prelude.{IfSome}
+use Rattle.ham_syntax.specs.declared.limits.TheConstants.{MAX_OBJECT_BYTES}
 use Rattle.ham_syntax.specs.Objects.{Schema}
 use Rattle.ham_bytes.specs.Outside.{file_of, Fetches, FetchesFrom}
 use Rattle.ham_bytes.specs.declared.shelf.File.{File}
+use Rattle.ham_bytes.specs.declared.shelf.FetchFault.{FetchFault}
 use Rattle.ham_bytes.specs.declared.shelf.FetchFault.TheVariants as fetches
 use Rattle.ham_forms.specs.declared.fault.FileFault.{FileFault}
-use Rattle.ham_forms.specs.declared.fault.FileFault.TheVariants as fault
+use Rattle.ham_forms.specs.declared.fault.FileFault.TheVariants as faults
 use Rattle.ham_objfile.specs.Texts.{Answers}
-use Rattle.ham_rules.specs.declared.claim.Claim.{Claim}
-use Rattle.ham_rules.specs.declared.claim.Reason.{Reason}
-use Rattle.ham_rules.specs.Derivations.{IsGood}
-use Rattle.ham_derive.specs.Texts.{text_of}
-use Rattle.ham_analyse.specs.Analysis.{AreFirst, IsFirstWithout}
-use Rattle.ham_rules.specs.Claims.{Derivable}
-use Rattle.ham_witness.specs.declared.answers.Example.{Example}
-use Rattle.ham_witness.specs.Cases.{cases}
-use Rattle.ham_witness.specs.Shown.{IsFirstExample, NoneBreaks}
-use Rattle.ham_witness.specs.ExampleText.{example_text}
-use Rattle.ham_plan.specs.Plans.{Plan}
-use Rattle.ham_tables.specs.DerivedPlans.{IsDerivedPlan}
-use Rattle.ham_tables.specs.TablesText.{tables_text}
 use Rattle.ham_cli.specs.declared.exit.Exit.{Exit}
 use Rattle.ham_cli.specs.declared.exit.Exit.TheVariants as exits
-use Rattle.ham_cli.specs.declared.objects.Missing.{Missing}
-use Rattle.ham_cli.specs.declared.objects.Missing.TheVariants as missing
-use Rattle.ham_cli.specs.declared.refusal.Refusal.{Refusal}
-use Rattle.ham_cli.specs.declared.refusal.Refusal.TheVariants as refusals
-use Rattle.ham_syntax.specs.declared.limits.TheConstants.{MAX_OBJECT_BYTES}
-use Rattle.ham_cli.specs.Files.{is_want, HasFile, HasFault, ReadsObject, FindsObject}
-use Rattle.ham_cli.specs.Writes.{RunsOut, Puts, PutsMade, Stops, object_refusal, EndsAtObject, EndsFrom}
-use Rattle.ham_cli.specs.Refusals.{derivation_refusal}
-use Rattle.ham_cli.specs.CheckEnds.{IsVerdict, EndsWith}
-use Rattle.ham_cli.specs.DeriveEnds.{none_line, EndsWithClaim, EndsWithNames}
-use Rattle.ham_cli.specs.ExampleEnds.{derivable_line, none_shown_line, EndsWithCase, EndsWithNamed}
-use Rattle.ham_cli.specs.TablesEnds.{EndsWithPlan}
+use Rattle.ham_cli.specs.Commands.{Asked, Asks, AsksNothing, AsksOnce, Beside, beside}
+use Rattle.ham_cli.specs.Exits.{exit_of_fetch}
+use Rattle.ham_cli.specs.Files.{HasFile, HasBeside, Stops, EndsBeside}
+use Rattle.ham_cli.specs.Told.{Nothing, RunsOut, PutsMade, is_want, object_refusal}
+use Rattle.ham_cli.specs.Top.{EndsWith, EndsOn, EndsRead, Ends}
 
--- a fault that isn't want of memory is the first fault
-pub first_fault : (bytes : List ℕ) (e : FileFault) → Answers bytes (Err e) → false ≡ is_want e → ReadsObject bytes (Err (missing.Refused e))
-first_fault bytes (fault.NotUtf8 at) h n = h
-first_fault bytes fault.NotToml h n = h
-first_fault bytes (fault.UnknownKey key) h n = h
-first_fault bytes (fault.MissingKey key) h n = h
-first_fault bytes (fault.BadValue key) h n = h
-first_fault bytes (fault.Ill ill) h n = h
-first_fault bytes (fault.BadLine line) h n = h
-first_fault bytes fault.NoMemory h n = absurd cc
+-- ---- fetching
 
--- want of memory stops a command at any file
-runs_out : (files : List File) (name : List ℕ) (limit : ℕ) (before now : Option (List ℕ)) (exit : Exit) → RunsOut before now exit → Stops files name limit before now exit
-runs_out files name limit before now exit h = subst (λ (x : Exit). Stops files name limit before now x) (sym h.0) h.1
+nothing_more : (xs : List ℕ) → xs ≡ xs ++ []
+nothing_more [] = refl
+nothing_more (x ∷ xs) = ap (λ (ys : List ℕ). x ∷ ys) (nothing_more xs)
 
--- a fault of an object was told
-pub told : (files : List File) (name : List ℕ) (before now : Option (List ℕ)) (f : FileFault) (exit : Exit) → PutsMade before now (object_refusal f) exits.ObjectRefused exit → HasFault files name f → EndsAtObject files name before now exit
-told files name before now f exit puts has = elim puts [ inl r ↦ inl (runs_out files name _ before now exit r) | inr p ↦ inr (f, has, p) ]
-
--- a command ends at its object, or goes on from it
-pub ends_missing : (held : Option (List File)) (name : List ℕ) (before now : Option (List ℕ)) (why : Missing) (exit : Exit) (Ends : List File → Schema → Type 0) → IfSome held (λ files. FindsObject files name (Err why))
-    → ((files : List File) (name : List ℕ) → FindsObject files name (Err why) → EndsAtObject files name before now exit) → IfSome held (λ files. EndsFrom files name before now exit (Ends files))
-ends_missing None name before now why exit Ends finds tells = tt
-ends_missing (Some files) name before now why exit Ends finds tells = inl (tells files name finds)
-
-pub ends_found : (held : Option (List File)) (name : List ℕ) (before now : Option (List ℕ)) (o : Schema) (exit : Exit) (Ends : List File → Schema → Type 0) → IfSome held (λ files. FindsObject files name (Ok o))
-    → ((files : List File) → Ends files o) → IfSome held (λ files. EndsFrom files name before now exit (Ends files))
-ends_found None name before now o exit Ends finds ends = tt
-ends_found (Some files) name before now o exit Ends finds ends = inr (o, finds, ends files)
-
-pub refused : (o : Schema) (bytes : List ℕ) (found : Option Refusal) (why : Refusal) (before now : Option (List ℕ)) (exit : Exit) → IsVerdict o bytes (Ok found) → found ≡ Some why
-    → PutsMade before now (derivation_refusal why) exits.DerivationRefused exit → EndsWith o bytes before now exit
-refused o bytes found why before now exit is some puts = inr (inr (why, subst (λ (x : Option Refusal). IsVerdict o bytes (Ok x)) some is, puts))
-
--- a name of the claim is no method
-pub unnamed : (o : Schema) (found : Option Claim) (before now : Option (List ℕ)) (exit : Exit) → None ≡ found → PutsMade before now (derivation_refusal refusals.UnknownName) exits.DerivationRefused exit → EndsWithNames o found before now exit
-unnamed o found before now exit none puts = subst (λ (x : Option Claim). EndsWithNames o x before now exit) none puts
+nothing : (t : Option (List ℕ)) → Nothing t t
+nothing None = tt
+nothing (Some xs) = ap Some (nothing_more xs)
 
 -- a fetch gave the file of the name
-pub has_file : (files : List File) (name bytes : List ℕ) (limit : ℕ) (file : Option (List ℕ)) → file_of files name ≡ file → Fetches file limit (Ok bytes) → HasFile files name limit bytes
-has_file files name bytes limit None is h = absurd h
-has_file files name bytes limit (Some file) is h = record { holds = is ∙ ap Some (sym h.0); within = subst (λ (x : List ℕ). length x ≤ limit) (sym h.0) h.1 }
+has_file_of : (files : List File) (name bytes : List ℕ) (limit : ℕ) (file : Option (List ℕ)) → file_of files name ≡ file → Fetches file limit (Ok bytes) → HasFile files name limit bytes
+has_file_of files name bytes limit None is h = absurd h
+has_file_of files name bytes limit (Some file) is h = record { holds = is ∙ ap Some (sym h.0); within = subst (λ (x : List ℕ). length x ≤ limit) (sym h.0) h.1 }
 
-found_in : (files : List File) (name bytes : List ℕ) (r : Result Schema Missing) → HasFile files name MAX_OBJECT_BYTES bytes → ReadsObject bytes r → FindsObject files name r
-found_in files name bytes (Ok o) has reads = record { bytes = bytes; file = has; text = reads }
-found_in files name bytes (Err (missing.Refused f)) has reads = record { bytes = bytes; file = has; first = reads }
-found_in files name bytes (Err (missing.Unread fetches.Failed)) has reads = tt
-found_in files name bytes (Err (missing.Unread (fetches.TooLong limit))) has reads = absurd reads
-found_in files name bytes (Err (missing.Unread fetches.NoMemory)) has reads = tt
+has_file : (files : List File) (name bytes : List ℕ) (limit : ℕ) → Fetches (file_of files name) limit (Ok bytes) → HasFile files name limit bytes
+has_file files name bytes limit h = has_file_of files name bytes limit (file_of files name) refl h
 
-pub found : (held : Option (List File)) (name bytes text : List ℕ) (r : Result Schema Missing) → FetchesFrom held name MAX_OBJECT_BYTES (Ok bytes) → text ≡ bytes → ReadsObject text r → IfSome held (λ files. FindsObject files name r)
-found None name bytes text r fetched same reads = tt
-found (Some files) name bytes text r fetched same reads =
-    found_in files name bytes r (has_file files name bytes MAX_OBJECT_BYTES (file_of files name) refl fetched) (subst (λ (x : List ℕ). ReadsObject x r) same reads)
+-- or none
+stops_of : (files : List File) (name : List ℕ) (limit : ℕ) (t : Option (List ℕ)) (file : Option (List ℕ)) (fault : FetchFault) → file_of files name ≡ file → Fetches file limit (Err fault) → Stops files name limit t t (exit_of_fetch fault)
+stops_of files name limit t file fetches.Failed is h = nothing t
+stops_of files name limit t None (fetches.TooLong l) is h = absurd h
+stops_of files name limit t (Some bytes) (fetches.TooLong l) is h = ((bytes, is, h.1), nothing t)
+stops_of files name limit t file fetches.NoMemory is h = nothing t
 
-pub derived : (o : Schema) (claim : Claim) (reasons : List Reason) (before now : Option (List ℕ)) (exit : Exit) → AreFirst o claim reasons → IsGood o claim reasons → PutsMade before now (text_of o claim reasons) exits.Done exit → EndsWithClaim o claim before now exit
-derived o claim reasons before now exit first good puts = inr (inl (reasons, record { first = first; good = good }, puts))
+stops : (files : List File) (name : List ℕ) (limit : ℕ) (t : Option (List ℕ)) (fault : FetchFault) (exit : Exit) → Fetches (file_of files name) limit (Err fault) → exit ≡ exit_of_fetch fault → Stops files name limit t t exit
+stops files name limit t fault exit h at = subst (λ (x : Exit). Stops files name limit t t x) (sym at) (stops_of files name limit t (file_of files name) fault refl h)
 
-pub underived : (o : Schema) (claim : Claim) (k : ℕ) (before now : Option (List ℕ)) (exit : Exit) → IsFirstWithout o claim k → PutsMade before now (none_line k) exits.Done exit → EndsWithClaim o claim before now exit
-underived o claim k before now exit without puts = inr (inr (k, without, puts))
+-- ---- the file beside the object's
 
-pub planned : (o : Schema) (replicas : ℕ) (p : Plan) (before now : Option (List ℕ)) (exit : Exit) → IsDerivedPlan o p → p.replicas ≡ replicas → PutsMade before now (tables_text o p) exits.Done exit → EndsWithPlan o replicas before now exit
-planned o replicas p before now exit is are puts = (p, record { derived = is; replicas_are = are }, puts)
+pub on_none : (held : Option (List File)) (o : Schema) (asked : Asked) (before now : Option (List ℕ)) (exit : Exit) → beside asked ≡ None → EndsWith o asked [] before now exit → IfSome held (λ files. EndsOn o asked files before now exit)
+on_none None o asked before now exit none ends = tt
+on_none (Some files) o asked before now exit none ends = inr ([], subst (λ (b : Option Beside). HasBeside files b []) (sym none) refl, ends)
 
--- a case was found and told, or that there is none
-pub case_shown : (o : Schema) (claim : Claim) (e : Example) (before now : Option (List ℕ)) (exit : Exit) → IsFirstExample o claim (cases o claim) e → PutsMade before now (example_text o claim e) exits.Done exit → EndsWithCase o claim before now exit
-case_shown o claim e before now exit first puts = inr (inl (record { case = e; first = first; puts = puts }))
+pub on_found : (held : Option (List File)) (o : Schema) (asked : Asked) (file : Beside) (bytes text : List ℕ) (before now : Option (List ℕ)) (exit : Exit) → beside asked ≡ Some file → FetchesFrom held file.name file.limit (Ok bytes) → text ≡ bytes
+    → EndsWith o asked text before now exit → IfSome held (λ files. EndsOn o asked files before now exit)
+on_found None o asked file bytes text before now exit is fetched same ends = tt
+on_found (Some files) o asked file bytes text before now exit is fetched same ends =
+    inr (bytes, subst (λ (b : Option Beside). HasBeside files b bytes) (sym is) (has_file files file.name bytes file.limit fetched), subst (λ (x : List ℕ). EndsWith o asked x before now exit) same ends)
 
-pub case_derivable : (o : Schema) (claim : Claim) (before now : Option (List ℕ)) (exit : Exit) → Derivable o claim → Puts before now derivable_line exits.Done exit → EndsWithCase o claim before now exit
-case_derivable o claim before now exit derivable puts = inr (inr (inl (record { derivable = derivable; puts = puts })))
+pub on_unfetched : (held : Option (List File)) (o : Schema) (asked : Asked) (file : Beside) (t : Option (List ℕ)) (fault : FetchFault) (exit : Exit) → beside asked ≡ Some file → FetchesFrom held file.name file.limit (Err fault) → exit ≡ exit_of_fetch fault
+    → IfSome held (λ files. EndsOn o asked files t t exit)
+on_unfetched None o asked file t fault exit is fetched at = tt
+on_unfetched (Some files) o asked file t fault exit is fetched at = inl (subst (λ (b : Option Beside). EndsBeside files b t t exit) (sym is) (stops files file.name file.limit t fault exit fetched at))
 
-pub case_not_shown : (o : Schema) (claim : Claim) (before now : Option (List ℕ)) (exit : Exit) → ¬ Derivable o claim → NoneBreaks o claim (cases o claim) → Puts before now none_shown_line exits.Done exit → EndsWithCase o claim before now exit
-case_not_shown o claim before now exit underivable none puts = inr (inr (inr (record { underivable = underivable; none = none; puts = puts })))
+-- ---- the object's text
 
-pub case_unnamed : (o : Schema) (found : Option Claim) (before now : Option (List ℕ)) (exit : Exit) → None ≡ found → PutsMade before now (derivation_refusal refusals.UnknownName) exits.DerivationRefused exit → EndsWithNamed o found before now exit
-case_unnamed o found before now exit none puts = subst (λ (x : Option Claim). EndsWithNamed o x before now exit) none puts
+pub read_object : (held : Option (List File)) (text : List ℕ) (o : Schema) (asked : Asked) (before now : Option (List ℕ)) (exit : Exit) → Answers text (Ok o) → IfSome held (λ files. EndsOn o asked files before now exit)
+    → IfSome held (λ files. EndsRead text asked files before now exit)
+read_object None text o asked before now exit is ends = tt
+read_object (Some files) text o asked before now exit is ends = inr (inr (o, is, ends))
+
+refused : (files : List File) (text : List ℕ) (fault : FileFault) (asked : Asked) (before now : Option (List ℕ)) (exit : Exit) → Answers text (Err fault) → (is_want fault ≡ true → RunsOut before now exit)
+    → PutsMade before now (object_refusal fault) exits.ObjectRefused exit → EndsRead text asked files before now exit
+refused files text (faults.NotUtf8 at) asked before now exit is want puts = inr (inl (faults.NotUtf8 at, is, puts))
+refused files text faults.NotToml asked before now exit is want puts = inr (inl (faults.NotToml, is, puts))
+refused files text (faults.UnknownKey key) asked before now exit is want puts = inr (inl (faults.UnknownKey key, is, puts))
+refused files text (faults.MissingKey key) asked before now exit is want puts = inr (inl (faults.MissingKey key, is, puts))
+refused files text (faults.BadValue key) asked before now exit is want puts = inr (inl (faults.BadValue key, is, puts))
+refused files text (faults.Ill ill) asked before now exit is want puts = inr (inl (faults.Ill ill, is, puts))
+refused files text (faults.BadLine line) asked before now exit is want puts = inr (inl (faults.BadLine line, is, puts))
+refused files text faults.NoMemory asked before now exit is want puts = inl (want refl)
+
+pub read_refused : (held : Option (List File)) (text : List ℕ) (fault : FileFault) (asked : Asked) (before now : Option (List ℕ)) (exit : Exit) → Answers text (Err fault) → (is_want fault ≡ true → RunsOut before now exit)
+    → PutsMade before now (object_refusal fault) exits.ObjectRefused exit → IfSome held (λ files. EndsRead text asked files before now exit)
+read_refused None text fault asked before now exit is want puts = tt
+read_refused (Some files) text fault asked before now exit is want puts = refused files text fault asked before now exit is want puts
+
+-- ---- the object's file
+
+pub fetched_object : (held after : Option (List File)) (object bytes text : List ℕ) (asked : Asked) (before now : Option (List ℕ)) (exit : Exit) → after ≡ held → FetchesFrom held object MAX_OBJECT_BYTES (Ok bytes) → text ≡ bytes
+    → IfSome after (λ files. EndsRead text asked files before now exit) → IfSome held (λ files. Ends object asked files before now exit)
+fetched_object None after object bytes text asked before now exit kept fetched same ends = tt
+fetched_object (Some files) after object bytes text asked before now exit kept fetched same ends =
+    let there : IfSome (Some files) (λ files. EndsRead text asked files before now exit) = subst (λ (h : Option (List File)). IfSome h (λ files. EndsRead text asked files before now exit)) kept ends in
+    inr (bytes, has_file files object bytes MAX_OBJECT_BYTES fetched, subst (λ (x : List ℕ). EndsRead x asked files before now exit) same there)
+
+pub unfetched_object : (held : Option (List File)) (object : List ℕ) (asked : Asked) (t : Option (List ℕ)) (fault : FetchFault) (exit : Exit) → FetchesFrom held object MAX_OBJECT_BYTES (Err fault) → exit ≡ exit_of_fetch fault → IfSome held (λ files. Ends object asked files t t exit)
+unfetched_object None object asked t fault exit fetched at = tt
+unfetched_object (Some files) object asked t fault exit fetched at = inl (stops files object MAX_OBJECT_BYTES t fault exit fetched at)
+
+-- ---- whatever command the words ask
+
+pub for_any : (words : List (List ℕ)) (held : Option (List File)) (object : List ℕ) (asked : Asked) (Says : List ℕ → Asked → List File → Type 0) → AsksOnce words → Asks words object asked → IfSome held (λ files. Says object asked files)
+    → IfSome held (λ files. (other : List ℕ) (more : Asked) → Asks words other more → Says other more files)
+for_any words None object asked Says once asks h = tt
+for_any words (Some files) object asked Says once asks h = λ other more also.
+    let same = once object other asked more asks also in
+    subst (λ (x : List ℕ). Says x more files) same.0 (subst (λ (x : Asked). Says object x files) same.1 h)
+
+pub for_one : (words : List (List ℕ)) (object : List ℕ) (asked : Asked) (Says : List ℕ → Asked → Type 0) → AsksOnce words → Asks words object asked → Says object asked → (other : List ℕ) (more : Asked) → Asks words other more → Says other more
+for_one words object asked Says once asks h other more also =
+    let same = once object other asked more asks also in
+    subst (λ (x : List ℕ). Says x more) same.0 (subst (λ (x : Asked). Says object x) same.1 h)
+
+pub for_none : (words : List (List ℕ)) (held : Option (List File)) (Says : List ℕ → Asked → List File → Type 0) → AsksNothing words → IfSome held (λ files. (object : List ℕ) (asked : Asked) → Asks words object asked → Says object asked files)
+for_none words None Says none = tt
+for_none words (Some files) Says none = λ object asked asks. absurd (none object asked asks)

@@ -1,9 +1,11 @@
 pub mod Text
+pub mod Spelling
+pub mod Telling
 pub mod Ending
 pub mod Verdicts
 pub mod Seeking
-pub mod Fine
 pub mod Completing
 pub mod OneRun
-pub mod Replaying
 pub mod Drawn
+pub mod Recording
+pub mod Auditing

@@ -2,18 +2,15 @@
 use Rattle.std.proofs.Common.{◌≡◌, ℕ, ◌+◌, ◌-◌, ◌<◌, List, length, Some, inl, inr, sym, ap, ◌∙◌, arith}
 use Rattle.std.specs.Prelude.{slice_get}
 use Rattle.std.proofs.lemmas.Option.{slice_get_cases}
-use Rattle.ham_syntax.specs.declared.limits.TheConstants.{MAX_SCHEDULE_BYTES}
 use Rattle.ham_syntax.specs.Objects.{Schema}
-use Rattle.ham_bytes.specs.declared.shelf.File.{File}
 use Rattle.ham_plan.specs.Plans.{Plan, IsPlan}
 use Rattle.ham_plan.specs.Same.{SaysSame}
 use Rattle.ham_turns.specs.Settings.{Setting, setting_of}
 use Rattle.ham_tables.specs.DerivedPlans.{IsDerivedPlan}
 use Rattle.ham_replay.specs.Claims.{settings_of, setting_by}
-use Rattle.ham_replay.specs.Replays.{Played, played}
-use Rattle.ham_cli.specs.TablesEnds.{IsPlanFor}
-use Rattle.ham_cli.specs.ReplayEnds.{AreDerived, HaveOneSetting, IsPlayed, IsPlayedOnce}
-use Rattle.ham_cli.proofs.Fine.{one_file}
+use Rattle.ham_replay.specs.Replays.{played}
+use Rattle.ham_cli.specs.Plans.{IsPlanFor, AreDerived, HaveOneSetting}
+use Rattle.ham_cli.specs.PlayAnswers.{IsPlayedOnce}
 
 -- what laws of plans say
 abbrev pub DerivedSaySame : Type 0
@@ -48,8 +45,4 @@ module _ (one : HaveOneSetting) (o : Schema) where
   one_settings ps qs h k = λ i n. setting_at ps qs (n - 1) h k i
 
 pub played_once : HaveOneSetting → IsPlayedOnce
-played_once one o files name p q h k =
-    h.comes
-    ∙ ap (λ (y : ℕ → Setting). played o y h.schedule) (one_settings one o h.plans k.plans h.derived k.derived)
-    ∙ ap (played o (settings_of k.plans)) (one_file files name MAX_SCHEDULE_BYTES MAX_SCHEDULE_BYTES h.schedule k.schedule h.file k.file)
-    ∙ sym k.comes
+played_once one o schedule p q h k = h.comes ∙ ap (λ (y : ℕ → Setting). played o y schedule) (one_settings one o h.plans k.plans h.derived k.derived) ∙ sym k.comes

@@ -7,7 +7,7 @@ use Rattle.ham_rules.specs.Claims.{ClaimHolds}
 use Rattle.ham_rules.specs.Derivations.{IsGood, IsFirstGap}
 use Rattle.ham_derive.specs.Texts.{IsDerivationText, TextsAreOfOne, IsBadLine}
 use Rattle.ham_cli.specs.declared.refusal.Refusal.TheVariants as refusals
-use Rattle.ham_cli.specs.CheckEnds.{IsGoodText, IsProof, IsRefused}
+use Rattle.ham_cli.specs.CheckAnswers.{IsGoodText, IsProof, IsRefused}
 
 pub proved : (o : Schema) (bytes : List ℕ) (claim : Claim) (reasons : List Reason) → IsDerivationText o claim reasons bytes → IsGood o claim reasons → ClaimHolds o claim → IsProof o bytes
 proved o bytes claim reasons text good holds = record { text = record { claim = claim; reasons = reasons; text = text; good = good }; holds = holds }

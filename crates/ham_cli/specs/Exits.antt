@@ -19,6 +19,7 @@ number_of exits.WriteFault = 5
 number_of exits.NoMemory = 6
 number_of exits.TooLong = 7
 number_of exits.DerivationRefused = 8
+number_of exits.AuditRefused = 10
 
 abbrev pub exit_of_fetch : FetchFault → Exit
 exit_of_fetch fetches.Failed = exits.ReadFault

@@ -1,16 +1,16 @@
 pub mod Commands
+pub mod Reading
 pub mod Exits
+pub mod Told
 pub mod Files
-pub mod Writes
+pub mod Plans
+pub mod CheckAnswers
+pub mod ClaimAnswers
+pub mod PlayAnswers
+pub mod AuditAnswers
+pub mod RecordAnswers
+pub mod Answers
 pub mod Sought
-pub mod Refusals
-pub mod ReplayEnds
-pub mod BulkEnds
-pub mod NormalEnds
-pub mod CheckEnds
-pub mod DeriveEnds
-pub mod ExampleEnds
-pub mod TablesEnds
 pub mod Top
 pub use Rattle.ham_syntax.specs.Objects
 pub use Rattle.ham_bytes.specs.Outside
@@ -32,3 +32,7 @@ pub use Rattle.ham_bulk.specs.Scripts
 pub use Rattle.ham_bulk.specs.ScriptTexts
 pub use Rattle.ham_bulk.specs.Summaries
 pub use Rattle.ham_bulk.specs.Scripted
+pub use Rattle.ham_records.specs.Texts as RecordTexts
+pub use Rattle.ham_audit.specs.Faults
+pub use Rattle.ham_audit.specs.Claims as AuditClaims
+pub use Rattle.ham_record.specs.Recorded

@@ -1,75 +1,32 @@
 //! The command `check OBJECT FILE`.
 
-ghost use Rattle.std.specs.Prelude.{◌≡◌, ◌≤◌, ◌⊎◌, IfSome};
+ghost use Rattle.std.specs.Prelude.{◌≡◌, IfOk};
 ghost use Rattle.ham_syntax.specs.Checked.{IsChecked};
-ghost use Rattle.ham_cli.specs.CheckEnds as check_ends;
-ghost use Rattle.ham_cli.specs.Commands.{Checks};
-ghost use Rattle.ham_cli.specs.Exits.{IsCounted, IsSinkCounted};
-ghost use Rattle.ham_cli.specs.Sought.{AsksFirst, IsFileEnd, IsTextEnd};
+ghost use Rattle.ham_cli.specs.CheckAnswers as answers;
+ghost use Rattle.ham_cli.specs.Told.{IsEnd};
 
-use crate::exit::{Exit, exit_of_fetch};
-use crate::objects::{fetch_object, tell_missing};
+use crate::exit::Exit;
 use crate::refusal::Refusal;
-use crate::writes::{put_made, put_text};
-use ham_bytes::{Shelf, Sink};
+use crate::writes::Answer;
 use ham_derive::laws::derivations_read_back;
 use ham_derive::{TextFault, check, read_text};
-use ham_syntax::limits::MAX_OBJECT_BYTES;
 use ham_syntax::{NoMemory, Object};
 use std::alloc::Global;
 
-/// Fetches and reads the object, then fetches the derivation and checks it.
-pub fn run_check<H: Shelf, K: Sink>(
-    alloc: Global,
-    object: &[u8],
-    file: &[u8],
-    shelf: &mut H,
-    out: &mut K,
-) -> Exit
-    ensures ends { IfSome (H.held shelf.old) (λ files. check_ends.EndsCheck files object.now file.now (K.taken out.old) (K.taken out.new) result) }
-    ensures counted { IsCounted (H.faults shelf.old) (H.faults shelf.new) (K.faults out.old) (K.faults out.new) result }
-    ensures sought { AsksFirst (Checks object.now file.now) (H.sought shelf.old) (H.sought shelf.new) result }
+/// Whether the bytes are the text of a good derivation.
+pub fn check_text(alloc: Global, object: &Object, bytes: &[u8]) -> Result<Answer, NoMemory>
+    ensures answer { IfOk result (λ a. answers.AnswersCheck object.now bytes.now a.exit a.text) }
+    ensures end { IfOk result (λ a. IsEnd a.exit) }
 {
-    match fetch_object(alloc, object, shelf) {
-        Ok(object) => check_file(alloc, &object, file, shelf, out),
-        Err(missing) => tell_missing(alloc, missing, out),
-    }
-}
-
-/// Checks the derivation of this name. It may be as long as an object.
-fn check_file<H: Shelf, K: Sink>(
-    alloc: Global,
-    object: &Object,
-    file: &[u8],
-    shelf: &mut H,
-    out: &mut K,
-) -> Exit
-    ensures ends { IfSome (H.held shelf.old) (λ files. check_ends.EndsAtFile object.now files file.now (K.taken out.old) (K.taken out.new) result) }
-    ensures counted { IsCounted (H.faults shelf.old) (H.faults shelf.new) (K.faults out.old) (K.faults out.new) result }
-    ensures sought { IsFileEnd Exit.DerivationRefused (H.sought shelf.old) (H.sought shelf.new) file.now result }
-{
-    match shelf.fetch(alloc, file, MAX_OBJECT_BYTES) {
-        Ok(bytes) => tell_verdict(alloc, object, bytes.items(), out),
-        Err(fault) => exit_of_fetch(fault),
-    }
-}
-
-/// Tells whether the bytes are the text of a good derivation.
-fn tell_verdict<K: Sink>(alloc: Global, object: &Object, bytes: &[u8], out: &mut K) -> Exit
-    ensures ends { check_ends.EndsWith object.now bytes.now (K.taken out.old) (K.taken out.new) result }
-    ensures counted { IsSinkCounted (K.faults out.old) (K.faults out.new) result }
-    ensures end { IsTextEnd Exit.Done result ⊎ IsTextEnd Exit.DerivationRefused result }
-{
-    match verdict_of(alloc, object, bytes) {
-        Ok(None) => put_text(out, b"ok\n", Exit::Done),
-        Ok(Some(why)) => put_made(out, why.line(alloc), Exit::DerivationRefused),
-        Err(NoMemory) => Exit::NoMemory,
+    match refusal_of(alloc, object, bytes)? {
+        Some(why) => why.answer(alloc),
+        None => Answer::line(alloc, b"ok\n"),
     }
 }
 
 /// Why the bytes are no text of a good derivation; none where they are.
-fn verdict_of(alloc: Global, object: &Object, bytes: &[u8]) -> Result<Option<Refusal>, NoMemory>
-    ensures { check_ends.IsVerdict object.now bytes.now result }
+fn refusal_of(alloc: Global, object: &Object, bytes: &[u8]) -> Result<Option<Refusal>, NoMemory>
+    ensures { IfOk result (λ found. answers.IsVerdict object.now bytes.now found) }
 {
     // A checked object's derivation texts are of one derivation each, so a refused one isn't good in another reading.
     derivations_read_back();

@@ -1,50 +1,48 @@
 //! What the words of the command line ask.
 
-ghost use Rattle.std.specs.Prelude.{◌≡◌, ◌<◌, ◌≤◌, Some, None, MatchOption, IfSome};
+ghost use Rattle.std.specs.Prelude.{◌≡◌, Some, None, MatchOption};
 ghost use Rattle.std.specs.List.{list_all};
 ghost use Rattle.std.specs.Str.{is_utf8};
 ghost use Rattle.ham_cli.specs.Commands as commands;
+ghost use Rattle.ham_cli.specs.Reading as reading;
 
+use crate::audits::MAX_RECORDS_BYTES;
 use crate::named::NamedClaim;
 use ham_bulk::MAX_ROUNDS;
 use ham_syntax::Word;
-use ham_syntax::limits::MAX_REPLICAS;
+use ham_syntax::limits::{MAX_OBJECT_BYTES, MAX_REPLICAS, MAX_SCHEDULE_BYTES};
 use ham_text::number;
 
-/// A command: its files, by their names.
+/// A command: the name of its object's file, and what is asked of that object.
 #[derive(Clone, Copy, Debug)]
-pub enum Command<'a> {
-    Replay {
-        object: &'a [u8],
-        schedule: &'a [u8],
-    },
-    Normal {
-        object: &'a [u8],
-    },
-    Check {
-        object: &'a [u8],
-        file: &'a [u8],
-    },
-    Derive {
-        object: &'a [u8],
-        claim: NamedClaim,
-    },
-    Example {
-        object: &'a [u8],
-        claim: NamedClaim,
-    },
-    Tables {
-        object: &'a [u8],
-        replicas: u8,
-    },
-    Bulk {
-        object: &'a [u8],
-        drawing: Drawing,
-    },
-    Script {
-        object: &'a [u8],
-        drawing: Drawing,
-    },
+pub struct Command<'a> {
+    pub object: &'a [u8],
+    pub task: Task<'a>,
+}
+
+/// What is asked of an object.
+#[derive(Clone, Copy, Debug)]
+pub enum Task<'a> {
+    /// Its plain form.
+    Normal,
+    /// The run that a schedule makes.
+    Replay { schedule: &'a [u8] },
+    /// The logs of the run that a schedule makes.
+    Record { schedule: &'a [u8] },
+    /// Whether records have a fault.
+    Audit { file: &'a [u8] },
+    /// Whether a file is a good derivation.
+    Check { file: &'a [u8] },
+    /// A derivation of a claim.
+    Derive { claim: NamedClaim },
+    /// A case that shows a claim false.
+    Example { claim: NamedClaim },
+    /// The tables of its plan.
+    Tables { replicas: u8 },
+    /// What became of a script's run.
+    Bulk { drawing: Drawing },
+    /// A script.
+    Script { drawing: Drawing },
 }
 
 /// A number, and how many replicas and rounds there are in the script that is drawn by it.
@@ -55,131 +53,147 @@ pub struct Drawing {
     pub rounds: u32,
 }
 
-/// What the words after the program's name ask; none where they have no shape of a command.
-#[tactic(auto, unfolding(crate::specs::Commands::asked))]
-pub fn command_of(words: &[Word]) -> Option<Command<'_>>
-    ensures shape { MatchOption result (commands.asked words.now ≡ None) (λ command. commands.asked words.now ≡ Some (commands.seen command)) }
-    ensures numbers { IfSome result (λ command. commands.IsInRange command) }
-{
-    if are_text(words) {
-        shape_of(words)
-    } else {
-        None
+/// A file beside the object's, and its greatest length in bytes.
+#[derive(Clone, Copy, Debug)]
+pub struct Need<'a> {
+    pub name: &'a [u8],
+    pub limit: u64,
+}
+
+impl<'a> Task<'a> {
+    /// The file that is read beside the object's.
+    pub fn need(&self) -> Option<Need<'a>>
+        ensures { MatchOption result (commands.beside (commands.seen self.now) ≡ None) (λ need. commands.beside (commands.seen self.now) ≡ Some (commands.seen_need need)) }
+    {
+        match *self {
+            Task::Replay { schedule } => Some(Need {
+                name: schedule,
+                limit: MAX_SCHEDULE_BYTES,
+            }),
+            Task::Record { schedule } => Some(Need {
+                name: schedule,
+                limit: MAX_SCHEDULE_BYTES,
+            }),
+            Task::Audit { file } => Some(Need {
+                name: file,
+                limit: MAX_RECORDS_BYTES,
+            }),
+            Task::Check { file } => Some(Need {
+                name: file,
+                limit: MAX_OBJECT_BYTES,
+            }),
+            Task::Normal => None,
+            Task::Derive { .. } => None,
+            Task::Example { .. } => None,
+            Task::Tables { .. } => None,
+            Task::Bulk { .. } => None,
+            Task::Script { .. } => None,
+        }
     }
 }
 
-fn shape_of(words: &[Word]) -> Option<Command<'_>>
-    ensures shape { MatchOption result (commands.shape_of words.now ≡ None) (λ command. commands.shape_of words.now ≡ Some (commands.seen command)) }
-    ensures numbers { IfSome result (λ command. commands.IsInRange command) }
+/// What the words after the program's name ask; none where they are no command's.
+pub fn command_of(words: &[Word]) -> Option<Command<'_>>
+    ensures asks { MatchOption result (commands.AsksNothing words.now) (λ command. commands.Asks words.now command.object.now (commands.seen command.task)) }
+{
+    if are_text(words) { read(words) } else { None }
+}
+
+fn read(words: &[Word]) -> Option<Command<'_>>
+    ensures { MatchOption result (reading.read words.now ≡ None) (λ command. reading.read words.now ≡ Some (command.object.now, commands.seen command.task)) }
 {
     match words {
-        [verb, object] => on_object(verb.items(), object.items()),
-        [verb, object, word] => on_object_and(verb.items(), object.items(), word.items()),
-        [verb, object, kind, m] => {
-            let claim = NamedClaim::on_one(kind.items(), m.items());
-            on_claim(verb.items(), object.items(), claim)
-        }
-        [verb, object, kind, m, n] => {
-            on_five(
-                verb.items(),
-                object.items(),
-                kind.items(),
-                m.items(),
-                n.items(),
-            )
+        [verb, object, rest @ ..] => {
+            let object = object.items();
+            match task_by(verb.items(), rest) {
+                Some(task) => Some(Command { object, task }),
+                None => None,
+            }
         }
         _ => None,
     }
 }
 
-#[tactic(auto, unfolding(crate::specs::Commands::on_object))]
-fn on_object<'a>(verb: &[u8], object: &'a [u8]) -> Option<Command<'a>>
-    ensures shape { MatchOption result (commands.on_object verb.now object.now ≡ None) (λ command. commands.on_object verb.now object.now ≡ Some (commands.seen command)) }
-    ensures numbers { IfSome result (λ command. commands.IsInRange command) }
+/// The task of a verb and of the words after the object's file.
+#[tactic(auto, unfolding(crate::specs::Reading::asked_by))]
+fn task_by<'a>(verb: &[u8], rest: &'a [Word]) -> Option<Task<'a>>
+    ensures { MatchOption result (reading.asked_by verb.now rest.now ≡ None) (λ task. reading.asked_by verb.now rest.now ≡ Some (commands.seen task)) }
 {
     if verb == b"normal".as_slice() {
-        Some(Command::Normal { object })
-    } else {
-        None
-    }
-}
-
-#[tactic(auto, unfolding(crate::specs::Commands::on_object_and))]
-fn on_object_and<'a>(verb: &[u8], object: &'a [u8], word: &'a [u8]) -> Option<Command<'a>>
-    ensures shape { MatchOption result (commands.on_object_and verb.now object.now word.now ≡ None) (λ command. commands.on_object_and verb.now object.now word.now ≡ Some (commands.seen command)) }
-    ensures numbers { IfSome result (λ command. commands.IsInRange command) }
-{
-    if verb == b"replay".as_slice() {
-        let schedule = word;
-        Some(Command::Replay { object, schedule })
+        normal_in(rest)
+    } else if verb == b"replay".as_slice() {
+        let schedule = only(rest)?;
+        Some(Task::Replay { schedule })
+    } else if verb == b"record".as_slice() {
+        let schedule = only(rest)?;
+        Some(Task::Record { schedule })
+    } else if verb == b"audit".as_slice() {
+        let file = only(rest)?;
+        Some(Task::Audit { file })
     } else if verb == b"check".as_slice() {
-        Some(Command::Check { object, file: word })
-    } else if verb == b"tables".as_slice() {
-        let replicas = replicas_of(word)?;
-        Some(Command::Tables { object, replicas })
-    } else {
-        None
-    }
-}
-
-#[tactic(auto, unfolding(crate::specs::Commands::on_claim))]
-fn on_claim<'a>(verb: &[u8], object: &'a [u8], claim: Option<NamedClaim>) -> Option<Command<'a>>
-    ensures shape { MatchOption result (commands.on_claim verb.now object.now claim ≡ None) (λ command. commands.on_claim verb.now object.now claim ≡ Some (commands.seen command)) }
-    ensures numbers { IfSome result (λ command. commands.IsInRange command) }
-{
-    if verb == b"derive".as_slice() {
-        let claim = claim?;
-        Some(Command::Derive { object, claim })
+        let file = only(rest)?;
+        Some(Task::Check { file })
+    } else if verb == b"derive".as_slice() {
+        let claim = claim_in(rest)?;
+        Some(Task::Derive { claim })
     } else if verb == b"example".as_slice() {
-        let claim = claim?;
-        Some(Command::Example { object, claim })
+        let claim = claim_in(rest)?;
+        Some(Task::Example { claim })
+    } else if verb == b"tables".as_slice() {
+        let replicas = replicas_of(only(rest)?)?;
+        Some(Task::Tables { replicas })
+    } else if verb == b"bulk".as_slice() {
+        let drawing = drawing_in(rest)?;
+        Some(Task::Bulk { drawing })
+    } else if verb == b"script".as_slice() {
+        let drawing = drawing_in(rest)?;
+        Some(Task::Script { drawing })
     } else {
         None
     }
 }
 
-fn on_five<'a>(
-    verb: &[u8],
-    object: &'a [u8],
-    one: &[u8],
-    two: &[u8],
-    three: &[u8],
-) -> Option<Command<'a>>
-    ensures shape { MatchOption result (commands.on_five verb.now object.now one.now two.now three.now ≡ None) (λ command. commands.on_five verb.now object.now one.now two.now three.now ≡ Some (commands.seen command)) }
-    ensures numbers { IfSome result (λ command. commands.IsInRange command) }
+fn normal_in(rest: &[Word]) -> Option<Task<'_>>
+    ensures { MatchOption result (reading.normal_in rest.now ≡ None) (λ task. reading.normal_in rest.now ≡ Some (commands.seen task)) }
 {
-    if is_drawn(verb) {
-        on_drawing(verb, object, drawing_of(one, two, three))
-    } else {
-        on_claim(verb, object, NamedClaim::on_two(one, two, three))
+    match rest {
+        [] => Some(Task::Normal),
+        _ => None,
     }
 }
 
-/// Whether the command draws a script.
-fn is_drawn(verb: &[u8]) -> bool
-    ensures { result ≡ commands.is_drawn verb.now }
+/// The one word that there is.
+fn only(words: &[Word]) -> Option<&[u8]>
+    ensures { MatchOption result (reading.only words.now ≡ None) (λ word. reading.only words.now ≡ Some word.now) }
 {
-    verb == b"bulk".as_slice() || verb == b"script".as_slice()
-}
-
-#[tactic(auto, unfolding(crate::specs::Commands::on_drawing))]
-fn on_drawing<'a>(verb: &[u8], object: &'a [u8], drawing: Option<Drawing>) -> Option<Command<'a>>
-    requires { IfSome drawing (λ d. commands.IsDrawing d) }
-    ensures shape { MatchOption result (commands.on_drawing verb.now object.now drawing ≡ None) (λ command. commands.on_drawing verb.now object.now drawing ≡ Some (commands.seen command)) }
-    ensures numbers { IfSome result (λ command. commands.IsInRange command) }
-{
-    let drawing = drawing?;
-    if verb == b"bulk".as_slice() {
-        Some(Command::Bulk { object, drawing })
-    } else {
-        Some(Command::Script { object, drawing })
+    match words {
+        [word] => Some(word.items()),
+        _ => None,
     }
 }
 
-#[tactic(auto, unfolding(crate::specs::Commands::drawing_of))]
+fn claim_in(words: &[Word]) -> Option<NamedClaim>
+    ensures { result ≡ reading.claim_in words.now }
+{
+    match words {
+        [kind, m] => NamedClaim::on_one(kind.items(), m.items()),
+        [kind, m, n] => NamedClaim::on_two(kind.items(), m.items(), n.items()),
+        _ => None,
+    }
+}
+
+fn drawing_in(words: &[Word]) -> Option<Drawing>
+    ensures { result ≡ reading.drawing_in words.now }
+{
+    match words {
+        [seed, replicas, rounds] => drawing_of(seed.items(), replicas.items(), rounds.items()),
+        _ => None,
+    }
+}
+
+#[tactic(auto, unfolding(crate::specs::Reading::drawing_of))]
 fn drawing_of(seed: &[u8], replicas: &[u8], rounds: &[u8]) -> Option<Drawing>
-    ensures drawing { result ≡ commands.drawing_of seed.now replicas.now rounds.now }
-    ensures numbers { IfSome result (λ d. commands.IsDrawing d) }
+    ensures { result ≡ reading.drawing_of seed.now replicas.now rounds.now }
 {
     let seed = number(seed)?;
     let replicas = replicas_of(replicas)?;
@@ -192,10 +206,9 @@ fn drawing_of(seed: &[u8], replicas: &[u8], rounds: &[u8]) -> Option<Drawing>
 }
 
 /// A number of rounds, up to `MAX_ROUNDS`.
-#[tactic(auto, unfolding(crate::specs::Commands::rounds_of))]
+#[tactic(auto, unfolding(crate::specs::Reading::rounds_of))]
 fn rounds_of(word: &[u8]) -> Option<u32>
-    ensures rounds { result ≡ commands.rounds_of word.now }
-    ensures few { IfSome result (λ n. n ≤ MAX_ROUNDS) }
+    ensures { result ≡ reading.rounds_of word.now }
 {
     let n = number(word)?;
     if n <= u64::from(MAX_ROUNDS) {
@@ -206,10 +219,9 @@ fn rounds_of(word: &[u8]) -> Option<u32>
 }
 
 /// A number of replicas, from 1 to `MAX_REPLICAS`.
-#[tactic(auto, unfolding(crate::specs::Commands::replicas_of))]
+#[tactic(auto, unfolding(crate::specs::Reading::replicas_of))]
 fn replicas_of(word: &[u8]) -> Option<u8>
-    ensures replicas { result ≡ commands.replicas_of word.now }
-    ensures few { IfSome result (λ n. (0 < n) × (n ≤ MAX_REPLICAS)) }
+    ensures { result ≡ reading.replicas_of word.now }
 {
     let n = number(word)?;
     if 1 <= n && n <= MAX_REPLICAS as u64 {

@@ -27,6 +27,8 @@ pub enum Exit {
     TooLong = 7,
     /// The derivation is refused, or a claim names no method, which was written.
     DerivationRefused = 8,
+    /// The records are refused, which was written.
+    AuditRefused = 10,
 }
 
 impl Exit {

@@ -1,6 +1,9 @@
 //! What is so of every call, as contracts of functions that do nothing.
 
-ghost use Rattle.ham_cli.specs.ReplayEnds.{HaveOneSetting, IsPlayedOnce};
+ghost use Rattle.std.specs.Prelude.{ℕ, List};
+ghost use Rattle.ham_cli.specs.Commands.{AsksOnce};
+ghost use Rattle.ham_cli.specs.Plans.{HaveOneSetting};
+ghost use Rattle.ham_cli.specs.PlayAnswers.{IsPlayedOnce};
 
 use ham_runs::laws::plans_have_one_setting;
 use ham_tables::laws::derived_plans_say_one;
@@ -19,3 +22,8 @@ pub fn schedules_are_played_once()
 {
     derived_plans_have_one_setting();
 }
+
+/// Words ask one command at most.
+pub fn words_ask_one_command()
+    ensures { (words : List (List ℕ)) → AsksOnce words }
+{}

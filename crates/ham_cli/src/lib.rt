@@ -1,6 +1,9 @@
-//! The top call: what the words of the command line ask, done over a shelf and a sink.
+//! The top call: what the words of the command line ask, done over a shelf and a sink. Each command is a function of an
+//! object, of the bytes of the file beside it, and of what is asked; one place fetches these, and one puts the answer.
 #![tactic(auto)]
 
+mod answer;
+mod audits;
 mod bulks;
 mod checks;
 mod command;
@@ -10,8 +13,8 @@ mod exit;
 pub mod laws;
 mod named;
 mod normals;
-mod objects;
 mod plans;
+mod records;
 mod refusal;
 mod replays;
 mod tabulates;

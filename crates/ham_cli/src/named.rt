@@ -2,8 +2,8 @@
 
 ghost use Rattle.std.specs.Prelude.{◌≡◌, IfSome};
 ghost use Rattle.ham_derive.specs.Texts.{HasMethods};
-ghost use Rattle.ham_cli.specs.Commands as commands;
-ghost use Rattle.ham_cli.specs.DeriveEnds as derive_ends;
+ghost use Rattle.ham_cli.specs.Reading as reading;
+ghost use Rattle.ham_cli.specs.ClaimAnswers.{claim_named};
 
 use ham_rules::Claim;
 use ham_syntax::{Name, Object};
@@ -19,9 +19,9 @@ pub enum NamedClaim {
 
 impl NamedClaim {
     /// The claim of a kind and one word; none where the kind takes two, or the word is no name.
-    #[tactic(auto, unfolding(crate::specs::Commands::claim_on_one))]
+    #[tactic(auto, unfolding(crate::specs::Reading::claim_on_one))]
     pub fn on_one(kind: &[u8], m: &[u8]) -> Option<NamedClaim>
-        ensures { result ≡ commands.claim_on_one kind.now m.now }
+        ensures { result ≡ reading.claim_on_one kind.now m.now }
     {
         let m = Name::new(m)?;
         if kind == b"is".as_slice() {
@@ -32,9 +32,9 @@ impl NamedClaim {
     }
 
     /// The claim of a kind and two words; none where the kind takes one, or a word is no name.
-    #[tactic(auto, unfolding(crate::specs::Commands::claim_on_two))]
+    #[tactic(auto, unfolding(crate::specs::Reading::claim_on_two))]
     pub fn on_two(kind: &[u8], m: &[u8], n: &[u8]) -> Option<NamedClaim>
-        ensures { result ≡ commands.claim_on_two kind.now m.now n.now }
+        ensures { result ≡ reading.claim_on_two kind.now m.now n.now }
     {
         let m = Name::new(m)?;
         let n = Name::new(n)?;
@@ -42,9 +42,9 @@ impl NamedClaim {
     }
 
     /// The claim on the object's methods; none where a name is no method.
-    #[tactic(auto, unfolding(crate::specs::DeriveEnds::claim_named))]
+    #[tactic(auto, unfolding(crate::specs::ClaimAnswers::claim_named))]
     pub fn find(self, object: &Object) -> Option<Claim>
-        ensures claim { result ≡ derive_ends.claim_named object.now self }
+        ensures claim { result ≡ claim_named object.now self }
         ensures methods { IfSome result (λ claim. HasMethods object.now claim) }
     {
         match self {
@@ -72,7 +72,7 @@ impl NamedClaim {
 }
 
 fn of_kind(kind: &[u8], m: Name, n: Name) -> Option<NamedClaim>
-    ensures { result ≡ commands.claim_of_kind kind.now m n }
+    ensures { result ≡ reading.claim_of_kind kind.now m n }
 {
     if kind == b"sc".as_slice() {
         Some(NamedClaim::Sc { m, n })

@@ -1,7 +1,7 @@
 //! The plans of an object.
 
 ghost use Rattle.ham_replay.specs.Claims.{ArePlans};
-ghost use Rattle.ham_cli.specs.ReplayEnds.{AreDerived};
+ghost use Rattle.ham_cli.specs.Plans.{AreDerived};
 
 use ham_replay::Plans;
 use ham_syntax::Object;

@@ -1,9 +1,10 @@
 //! Why a derivation, or what is asked of one, is refused.
 
 ghost use Rattle.std.specs.Prelude.{◌≡◌, IfOk};
-ghost use Rattle.ham_cli.specs.Refusals as refusals;
+ghost use Rattle.ham_cli.specs.Told as told;
 
-use crate::writes::refusal_line;
+use crate::exit::Exit;
+use crate::writes::{Answer, refusal_line};
 use ham_syntax::{Bytes, NoMemory};
 use std::alloc::Global;
 
@@ -19,16 +20,26 @@ pub enum Refusal {
 }
 
 impl Refusal {
+    /// The answer that tells it.
+    pub fn answer(self, alloc: Global) -> Result<Answer, NoMemory>
+        ensures answer { IfOk result (λ a. told.IsTold Exit.DerivationRefused (told.derivation_refusal self) a.exit a.text) }
+        ensures end { IfOk result (λ a. told.IsEnd a.exit) }
+    {
+        let exit = Exit::DerivationRefused;
+        let text = self.line(alloc)?;
+        Ok(Answer { exit, text })
+    }
+
     /// The line that tells it.
-    pub fn line(self, alloc: Global) -> Result<Bytes, NoMemory>
-        ensures { IfOk result (λ line. line ≡ refusals.derivation_refusal self) }
+    fn line(self, alloc: Global) -> Result<Bytes, NoMemory>
+        ensures { IfOk result (λ line. line ≡ told.derivation_refusal self) }
     {
         let why = self.reason(alloc)?;
         refusal_line(alloc, b"derivation refused: ", why.items())
     }
 
     fn reason(self, alloc: Global) -> Result<Bytes, NoMemory>
-        ensures { IfOk result (λ text. text ≡ refusals.reason_text self) }
+        ensures { IfOk result (λ text. text ≡ told.reason_text self) }
     {
         match self {
             Refusal::UnknownName => Bytes::of(alloc, b"unknown name"),

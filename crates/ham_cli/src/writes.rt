@@ -1,22 +1,59 @@
-//! What a command writes at its end.
+//! How an answer is written.
 
-ghost use Rattle.std.specs.Prelude.{◌≡◌, ◌≤◌, ℕ, List, [], ◌∷◌, ◌++◌, IfOk};
+ghost use Rattle.std.specs.Prelude.{◌≡◌, ◌≤◌, IfOk, MatchResult};
 ghost use Rattle.ham_cli.specs.Exits.{IsSinkCounted};
-ghost use Rattle.ham_cli.specs.Sought.{IsTextEnd};
-ghost use Rattle.ham_cli.specs.Writes as writes;
+ghost use Rattle.ham_cli.specs.Told as told;
 
 use crate::exit::Exit;
 use ham_bytes::{Sink, SinkFault, put_all};
 use ham_syntax::{Bytes, NoMemory};
 use std::alloc::Global;
 
-/// Puts a text, with the exit that comes with it.
-pub fn put_text<K: Sink>(out: &mut K, text: &[u8], with: Exit) -> Exit
-    requires { writes.IsEnd with }
-    ensures ends { writes.Puts (K.taken out.old) (K.taken out.new) text.now with result }
+/// An exit, and the text that comes with it.
+#[derive(Drop)]
+pub struct Answer {
+    pub exit: Exit,
+    pub text: Bytes,
+}
+
+impl Answer {
+    /// The answer to what was asked, which isn't refused.
+    pub fn done(text: Bytes) -> Answer
+        ensures exit { result.exit ≡ Exit.Done }
+        ensures text { result.text ≡ text }
+    {
+        let exit = Exit::Done;
+        Answer { exit, text }
+    }
+
+    /// The same with a text that is always the same.
+    pub fn line(alloc: Global, text: &[u8]) -> Result<Answer, NoMemory>
+        ensures { IfOk result (λ a. told.IsTold Exit.Done text.now a.exit a.text) }
+    {
+        let text = Bytes::of(alloc, text)?;
+        Ok(Answer::done(text))
+    }
+}
+
+/// Puts an answer, where there was memory to make it.
+pub fn put_answer<K: Sink>(out: &mut K, answer: Result<Answer, NoMemory>) -> Exit
+    requires { IfOk answer (λ a. told.IsEnd a.exit) }
+    ensures ends { MatchResult answer (λ a. told.Puts (K.taken out.old) (K.taken out.new) a.text a.exit result) (λ e. told.RunsOut (K.taken out.old) (K.taken out.new) result) }
     ensures later { K.faults out.old ≤ K.faults out.new }
     ensures counted { IsSinkCounted (K.faults out.old) (K.faults out.new) result }
-    ensures end { IsTextEnd with result }
+{
+    match answer {
+        Ok(answer) => put_text(out, answer.text.items(), answer.exit),
+        Err(NoMemory) => Exit::NoMemory,
+    }
+}
+
+/// Puts a text, with the exit that comes with it.
+pub fn put_text<K: Sink>(out: &mut K, text: &[u8], with: Exit) -> Exit
+    requires { told.IsEnd with }
+    ensures ends { told.Puts (K.taken out.old) (K.taken out.new) text.now with result }
+    ensures later { K.faults out.old ≤ K.faults out.new }
+    ensures counted { IsSinkCounted (K.faults out.old) (K.faults out.new) result }
 {
     match put_all(out, text) {
         Ok(()) => with,
@@ -24,23 +61,9 @@ pub fn put_text<K: Sink>(out: &mut K, text: &[u8], with: Exit) -> Exit
     }
 }
 
-/// Puts a text where there was memory to make it, with the exit that comes with it.
-pub fn put_made<K: Sink>(out: &mut K, made: Result<Bytes, NoMemory>, with: Exit) -> Exit
-    requires { writes.IsEnd with }
-    ensures ends { (text : List ℕ) → IfOk made (λ bytes. bytes ≡ text) → writes.PutsMade (K.taken out.old) (K.taken out.new) text with result }
-    ensures later { K.faults out.old ≤ K.faults out.new }
-    ensures counted { IsSinkCounted (K.faults out.old) (K.faults out.new) result }
-    ensures end { IsTextEnd with result }
-{
-    match made {
-        Ok(text) => put_text(out, text.items(), with),
-        Err(NoMemory) => Exit::NoMemory,
-    }
-}
-
 /// A line of a refusal: what is refused, why, and the line's end.
 pub fn refusal_line(alloc: Global, what: &[u8], why: &[u8]) -> Result<Bytes, NoMemory>
-    ensures { IfOk result (λ line. line ≡ writes.line_of what.now why.now) }
+    ensures { IfOk result (λ line. line ≡ told.line_of what.now why.now) }
 {
     let mut line = Bytes::of(alloc, what)?;
     line.extend(why)?;
