@@ -1,10 +1,8 @@
 //! What the runs share: the bank, and the words of a replay.
 
-ghost use Rattle.std.specs.Prelude.{◌≡◌, [], ◌∷◌, map, Some, IfOk, codes};
-ghost use Rattle.ham_cli.specs.Top as top;
+ghost use Rattle.std.specs.Prelude.{◌≡◌, [], ◌∷◌, map, IfOk, codes};
 
-use ham_bytes::{MemShelf, MemSink, Words};
-use ham_cli::{Exit, run};
+use ham_bytes::{MemShelf, Words};
 use std::alloc::Global;
 use std::test::Fail;
 
@@ -31,20 +29,4 @@ pub fn words_of(alloc: Global, all: &[&[u8]]) -> Result<Words, Fail>
         words.push(word)?;
     }
     Ok(words)
-}
-
-/// Replays a schedule of an object, with room for the text.
-pub fn replay_of(
-    alloc: Global,
-    object: &[u8],
-    schedule: &[u8],
-    room: usize,
-) -> Result<(Exit, MemSink), Fail>
-    ensures { IfOk result (λ r. top.Ends (codes "replay" ∷ codes "bank" ∷ codes "plan" ∷ []) (Some (record { name = codes "bank"; bytes = object.now } ∷ record { name = codes "plan"; bytes = schedule.now } ∷ [])) (Some []) (Some r.1.taken) r.0) }
-{
-    let words = words_of(alloc, &[b"replay", b"bank", b"plan"])?;
-    let mut shelf = shelf_of(alloc, object, schedule)?;
-    let mut sink = MemSink::new(alloc, room, 16)?;
-    let exit = run(alloc, &words, &mut shelf, &mut sink);
-    Ok((exit, sink))
 }
