@@ -20,7 +20,7 @@ use Rattle.ham_cli.specs.declared.exit.Exit.{Exit}
 use Rattle.ham_cli.specs.declared.exit.Exit.TheVariants as exits
 use Rattle.ham_cli.specs.Exits.{IsCounted}
 use Rattle.ham_cli.specs.Commands.{Asked, Normalizes, Replays, Records, Audits, Checks, Derives, Exemplifies, Tabulates, Bulks, Scripts, Beside, beside}
-use Rattle.ham_cli.specs.Files.{HasFile, HasBeside, IsTooLong, Stops, EndsBeside}
+use Rattle.ham_cli.specs.Files.{HasFile, HasBeside, IsTooLong, Stops, EndsBeside, EndsUnread}
 use Rattle.ham_cli.specs.Told.{TellsWhole, Tells}
 use Rattle.ham_cli.specs.Plans.{IsPlanFor, HaveOneSetting}
 use Rattle.ham_cli.specs.ClaimAnswers.{claim_named, AnswersDerive, AnswersExample}
@@ -108,14 +108,14 @@ same_some : (a b : List ℕ) → Some a ≡ Some b → a ≡ b
 same_some a b e = cc
 
 -- a name has one file
-one_file : (files : List File) (name : List ℕ) (limit : ℕ) (a b : List ℕ) → HasFile files name limit a → HasFile files name limit b → a ≡ b
+pub one_file : (files : List File) (name : List ℕ) (limit : ℕ) (a b : List ℕ) → HasFile files name limit a → HasFile files name limit b → a ≡ b
 one_file files name limit a b h k = same_some a b (sym h.holds ∙ k.holds)
 
 one_beside : (files : List File) (file : Option Beside) (a b : List ℕ) → HasBeside files file a → HasBeside files file b → a ≡ b
 one_beside files None a b h k = h ∙ sym k
 one_beside files (Some file) a b h k = one_file files file.name file.limit a b h k
 
-not_too_long : (files : List File) (name : List ℕ) (limit : ℕ) (a : List ℕ) → HasFile files name limit a → IsTooLong files name limit → ⊥
+pub not_too_long : (files : List File) (name : List ℕ) (limit : ℕ) (a : List ℕ) → HasFile files name limit a → IsTooLong files name limit → ⊥
 not_too_long files name limit a h k =
     let same : a ≡ k.0 = same_some a k.0 (sym h.holds ∙ k.1) in
     let long : limit < length a = subst (λ (x : List ℕ). limit < length x) (sym same) k.2 in
@@ -151,6 +151,10 @@ same_ok o p r s h k e = cc
 same_object : IsAnsweredOnce → (text : List ℕ) (o p : Schema) → IsText text o → IsText text p → o ≡ p
 same_object one text o p h k = same_ok o p (Ok o) (Ok p) refl refl (one text (Ok o) (Ok p) h k)
 
+-- an object's text is read, unless memory ran out
+pub unread_memory : IsAnsweredOnce → (text : List ℕ) (o : Schema) (before now : Option (List ℕ)) (exit : Exit) → IsText text o → EndsUnread text before now exit → exit ≡ exits.NoMemory
+unread_memory one text o before now exit is h = elim h [ inl r ↦ r.0 | inr f ↦ absurd (no_fault one text o f.0 is f.1) ]
+
 -- ---- commands
 
 module _ (answered : IsAnsweredOnce) (once : IsPlayedOnce) (one : HaveOneSetting) (files : List File) (object : List ℕ) (asked : Asked) (before now : Option (List ℕ)) (exit : Exit) (calm : IsCalm exit) (allowed : IsAllowed object asked files) where
@@ -163,11 +167,8 @@ module _ (answered : IsAnsweredOnce) (once : IsPlayedOnce) (one : HaveOneSetting
 
   read_fine : (text : List ℕ) → IsText text allowed.o → EndsRead text asked files before now exit → Fine exit
   read_fine text is h = elim h [
-    | inl r ↦ inr r.0
-    | inr k ↦ elim k [
-      | inl f ↦ absurd (no_fault answered text allowed.o f.0 is f.1)
-      | inr o ↦ on_fine o.0 (same_object answered text allowed.o o.0 is o.1) o.2
-    ]
+    | inl u ↦ inr (unread_memory answered text allowed.o before now exit is u)
+    | inr o ↦ on_fine o.0 (same_object answered text allowed.o o.0 is o.1) o.2
   ]
 
   ends_fine : Ends object asked files before now exit → Fine exit

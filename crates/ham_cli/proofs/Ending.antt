@@ -14,7 +14,7 @@ use Rattle.ham_cli.specs.declared.exit.Exit.{Exit}
 use Rattle.ham_cli.specs.declared.exit.Exit.TheVariants as exits
 use Rattle.ham_cli.specs.Commands.{Asked, Asks, AsksNothing, AsksOnce, Beside, beside}
 use Rattle.ham_cli.specs.Exits.{exit_of_fetch}
-use Rattle.ham_cli.specs.Files.{HasFile, HasBeside, Stops, EndsBeside}
+use Rattle.ham_cli.specs.Files.{HasFile, HasBeside, Stops, EndsBeside, EndsUnread}
 use Rattle.ham_cli.specs.Told.{Nothing, RunsOut, PutsMade, is_want, object_refusal}
 use Rattle.ham_cli.specs.Top.{EndsWith, EndsOn, EndsRead, Ends}
 
@@ -33,7 +33,7 @@ has_file_of : (files : List File) (name bytes : List ℕ) (limit : ℕ) (file : 
 has_file_of files name bytes limit None is h = absurd h
 has_file_of files name bytes limit (Some file) is h = record { holds = is ∙ ap Some (sym h.0); within = subst (λ (x : List ℕ). length x ≤ limit) (sym h.0) h.1 }
 
-has_file : (files : List File) (name bytes : List ℕ) (limit : ℕ) → Fetches (file_of files name) limit (Ok bytes) → HasFile files name limit bytes
+pub has_file : (files : List File) (name bytes : List ℕ) (limit : ℕ) → Fetches (file_of files name) limit (Ok bytes) → HasFile files name limit bytes
 has_file files name bytes limit h = has_file_of files name bytes limit (file_of files name) refl h
 
 -- or none
@@ -43,7 +43,7 @@ stops_of files name limit t None (fetches.TooLong l) is h = absurd h
 stops_of files name limit t (Some bytes) (fetches.TooLong l) is h = ((bytes, is, h.1), nothing t)
 stops_of files name limit t file fetches.NoMemory is h = nothing t
 
-stops : (files : List File) (name : List ℕ) (limit : ℕ) (t : Option (List ℕ)) (fault : FetchFault) (exit : Exit) → Fetches (file_of files name) limit (Err fault) → exit ≡ exit_of_fetch fault → Stops files name limit t t exit
+pub stops : (files : List File) (name : List ℕ) (limit : ℕ) (t : Option (List ℕ)) (fault : FetchFault) (exit : Exit) → Fetches (file_of files name) limit (Err fault) → exit ≡ exit_of_fetch fault → Stops files name limit t t exit
 stops files name limit t fault exit h at = subst (λ (x : Exit). Stops files name limit t t x) (sym at) (stops_of files name limit t (file_of files name) fault refl h)
 
 -- ---- the file beside the object's
@@ -68,23 +68,23 @@ on_unfetched (Some files) o asked file t fault exit is fetched at = inl (subst (
 pub read_object : (held : Option (List File)) (text : List ℕ) (o : Schema) (asked : Asked) (before now : Option (List ℕ)) (exit : Exit) → Answers text (Ok o) → IfSome held (λ files. EndsOn o asked files before now exit)
     → IfSome held (λ files. EndsRead text asked files before now exit)
 read_object None text o asked before now exit is ends = tt
-read_object (Some files) text o asked before now exit is ends = inr (inr (o, is, ends))
+read_object (Some files) text o asked before now exit is ends = inr (o, is, ends)
 
-refused : (files : List File) (text : List ℕ) (fault : FileFault) (asked : Asked) (before now : Option (List ℕ)) (exit : Exit) → Answers text (Err fault) → (is_want fault ≡ true → RunsOut before now exit)
-    → PutsMade before now (object_refusal fault) exits.ObjectRefused exit → EndsRead text asked files before now exit
-refused files text (faults.NotUtf8 at) asked before now exit is want puts = inr (inl (faults.NotUtf8 at, is, puts))
-refused files text faults.NotToml asked before now exit is want puts = inr (inl (faults.NotToml, is, puts))
-refused files text (faults.UnknownKey key) asked before now exit is want puts = inr (inl (faults.UnknownKey key, is, puts))
-refused files text (faults.MissingKey key) asked before now exit is want puts = inr (inl (faults.MissingKey key, is, puts))
-refused files text (faults.BadValue key) asked before now exit is want puts = inr (inl (faults.BadValue key, is, puts))
-refused files text (faults.Ill ill) asked before now exit is want puts = inr (inl (faults.Ill ill, is, puts))
-refused files text (faults.BadLine line) asked before now exit is want puts = inr (inl (faults.BadLine line, is, puts))
-refused files text faults.NoMemory asked before now exit is want puts = inl (want refl)
+pub unread : (text : List ℕ) (fault : FileFault) (before now : Option (List ℕ)) (exit : Exit) → Answers text (Err fault) → (is_want fault ≡ true → RunsOut before now exit) → PutsMade before now (object_refusal fault) exits.ObjectRefused exit
+    → EndsUnread text before now exit
+unread text (faults.NotUtf8 at) before now exit is want puts = inr (faults.NotUtf8 at, is, puts)
+unread text faults.NotToml before now exit is want puts = inr (faults.NotToml, is, puts)
+unread text (faults.UnknownKey key) before now exit is want puts = inr (faults.UnknownKey key, is, puts)
+unread text (faults.MissingKey key) before now exit is want puts = inr (faults.MissingKey key, is, puts)
+unread text (faults.BadValue key) before now exit is want puts = inr (faults.BadValue key, is, puts)
+unread text (faults.Ill ill) before now exit is want puts = inr (faults.Ill ill, is, puts)
+unread text (faults.BadLine line) before now exit is want puts = inr (faults.BadLine line, is, puts)
+unread text faults.NoMemory before now exit is want puts = inl (want refl)
 
 pub read_refused : (held : Option (List File)) (text : List ℕ) (fault : FileFault) (asked : Asked) (before now : Option (List ℕ)) (exit : Exit) → Answers text (Err fault) → (is_want fault ≡ true → RunsOut before now exit)
     → PutsMade before now (object_refusal fault) exits.ObjectRefused exit → IfSome held (λ files. EndsRead text asked files before now exit)
 read_refused None text fault asked before now exit is want puts = tt
-read_refused (Some files) text fault asked before now exit is want puts = refused files text fault asked before now exit is want puts
+read_refused (Some files) text fault asked before now exit is want puts = inl (unread text fault before now exit is want puts)
 
 -- ---- the object's file
 

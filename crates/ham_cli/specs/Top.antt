@@ -5,13 +5,12 @@ use Rattle.std.specs.Prelude.{◌≡◌, ◌⊎◌, ℕ, List, [], ◌∷◌, �
 use Rattle.ham_syntax.specs.Objects.{Schema}
 use Rattle.ham_syntax.specs.declared.limits.TheConstants.{MAX_OBJECT_BYTES}
 use Rattle.ham_bytes.specs.declared.shelf.File.{File}
-use Rattle.ham_forms.specs.declared.fault.FileFault.{FileFault}
-use Rattle.ham_objfile.specs.Texts.{IsText, IsFirstFault}
+use Rattle.ham_objfile.specs.Texts.{IsText}
 use Rattle.ham_cli.specs.declared.exit.Exit.{Exit}
 use Rattle.ham_cli.specs.declared.exit.Exit.TheVariants as exits
 use Rattle.ham_cli.specs.Commands.{Asked, Normalizes, Replays, Records, Audits, Checks, Derives, Exemplifies, Tabulates, Bulks, Scripts, beside}
-use Rattle.ham_cli.specs.Files.{HasFile, HasBeside, Stops, EndsBeside}
-use Rattle.ham_cli.specs.Told.{RunsOut, Puts, PutsMade, Tells, TellsWhole, object_refusal}
+use Rattle.ham_cli.specs.Files.{HasFile, HasBeside, Stops, EndsBeside, EndsUnread}
+use Rattle.ham_cli.specs.Told.{Puts, Tells, TellsWhole}
 use Rattle.ham_cli.specs.PlayAnswers.{IsReplayed}
 use Rattle.ham_cli.specs.RecordAnswers.{IsRecordedWell}
 use Rattle.ham_cli.specs.Answers.{Answers, IsMet}
@@ -43,13 +42,9 @@ EndsOn o asked files before now exit =
     EndsBeside files (beside asked) before now exit
     ⊎ ((bytes : List ℕ) × HasBeside files (beside asked) bytes × EndsWith o asked bytes before now exit)
 
--- the bytes of the object's file are no object's text, whose first fault is told, or an object's; memory may run out before
--- it is known which
+-- the bytes of the object's file are no object's text, or an object's
 abbrev pub EndsRead : List ℕ → Asked → List File → Option (List ℕ) → Option (List ℕ) → Exit → Type 0
-EndsRead text asked files before now exit =
-    RunsOut before now exit
-    ⊎ (((fault : FileFault) × IsFirstFault text fault × PutsMade before now (object_refusal fault) exits.ObjectRefused exit)
-    ⊎ ((o : Schema) × IsText text o × EndsOn o asked files before now exit))
+EndsRead text asked files before now exit = EndsUnread text before now exit ⊎ ((o : Schema) × IsText text o × EndsOn o asked files before now exit)
 
 -- a command ends at its object's file, or has its bytes
 abbrev pub Ends : List ℕ → Asked → List File → Option (List ℕ) → Option (List ℕ) → Exit → Type 0

@@ -231,7 +231,8 @@ fn replicas_of(word: &[u8]) -> Option<u8>
     }
 }
 
-fn are_text(words: &[Word]) -> bool
+/// Whether each word is UTF-8.
+pub fn are_text(words: &[Word]) -> bool
     ensures { result ≡ list_all is_utf8 words.now }
 {
     words.iter().all(|word| is_text(word.items()))

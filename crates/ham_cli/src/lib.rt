@@ -21,5 +21,6 @@ mod tabulates;
 mod top;
 mod writes;
 
-pub use exit::Exit;
-pub use top::run;
+pub use command::are_text;
+pub use exit::{Exit, exit_of_fetch};
+pub use top::{put_usage, refuse_object, run};

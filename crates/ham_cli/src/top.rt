@@ -43,8 +43,16 @@ pub fn run<H: Shelf, K: Sink>(alloc: Global, words: &Words, shelf: &mut H, out: 
     words_ask_one_command();
     match command_of(words.items()) {
         Some(command) => perform(alloc, &command, shelf, out),
-        None => put_text(out, USAGE, Exit::Usage),
+        None => put_usage(out),
     }
+}
+
+/// Writes the line that words of no command are answered by.
+pub fn put_usage<K: Sink>(out: &mut K) -> Exit
+    ensures ends { runs.EndsAsUsage (K.taken out.old) (K.taken out.new) result }
+    ensures counted { IsSinkCounted (K.faults out.old) (K.faults out.new) result }
+{
+    put_text(out, USAGE, Exit::Usage)
 }
 
 /// Fetches the object's file, and goes on from its bytes.
@@ -86,7 +94,7 @@ fn perform_read<H: Shelf, K: Sink>(
 }
 
 /// Tells why there is no object.
-fn refuse_object<K: Sink>(alloc: Global, fault: &FileFault, out: &mut K) -> Exit
+pub fn refuse_object<K: Sink>(alloc: Global, fault: &FileFault, out: &mut K) -> Exit
     ensures want { told.is_want fault.now ≡ true → told.RunsOut (K.taken out.old) (K.taken out.new) result }
     ensures ends { told.PutsMade (K.taken out.old) (K.taken out.new) (told.object_refusal fault.now) Exit.ObjectRefused result }
     ensures counted { IsSinkCounted (K.faults out.old) (K.faults out.new) result }

@@ -26,9 +26,9 @@ returns-in-Some-clause-sought g c =
     (subst (λ (w : List (List ℕ)). Asks w c.in-Some.command.object.now (seen c.in-Some.command.task)) c.items.ensures c.in-Some.ensures.asks) c.perform.ensures.sought
 
 pub returns-in-None-clause-ends : goal.returns-in-None-clause-ends
-returns-in-None-clause-ends g c = for_none c.args.words.now _ (λ o a files. Ends o a files (g.K.Sink.taken c.args.out.now) (g.K.Sink.taken c.put_text.new.out) c.put_text.result) (subst AsksNothing c.items.ensures c.in-None.ensures.asks)
+returns-in-None-clause-ends g c = for_none c.args.words.now _ (λ o a files. Ends o a files (g.K.Sink.taken c.args.out.now) (g.K.Sink.taken c.put_usage.new.out) c.put_usage.result) (subst AsksNothing c.items.ensures c.in-None.ensures.asks)
 
 pub returns-in-None-clause-complete : goal.returns-in-None-clause-complete
 returns-in-None-clause-complete g c =
-    for_none c.args.words.now _ (λ o a files. Completes o a files (Rose (g.H.Shelf.faults c.args.shelf.now) (g.H.Shelf.faults c.args.shelf.now)) (Rose (g.K.Sink.faults c.args.out.now) (g.K.Sink.faults c.put_text.new.out)) c.put_text.result)
+    for_none c.args.words.now _ (λ o a files. Completes o a files (Rose (g.H.Shelf.faults c.args.shelf.now) (g.H.Shelf.faults c.args.shelf.now)) (Rose (g.K.Sink.faults c.args.out.now) (g.K.Sink.faults c.put_usage.new.out)) c.put_usage.result)
     (subst AsksNothing c.items.ensures c.in-None.ensures.asks)

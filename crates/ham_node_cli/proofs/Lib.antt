@@ -1,0 +1,2 @@
+pub mod NodeSpelling
+pub mod Noded

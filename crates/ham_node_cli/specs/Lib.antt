@@ -1,0 +1,13 @@
+pub mod NodeWords
+pub mod NodeReading
+pub mod NodeEnds
+pub use Rattle.ham_bytes.specs.Causes
+pub use Rattle.ham_bytes.specs.Outside
+pub use Rattle.ham_objfile.specs.Texts
+pub use Rattle.ham_workers.specs.Sums
+pub use Rattle.ham_workers.specs.RunEnds
+pub use Rattle.ham_cli.specs.Exits
+pub use Rattle.ham_cli.specs.Files
+pub use Rattle.ham_cli.specs.Plans
+pub use Rattle.ham_cli.specs.Told
+pub use Rattle.ham_cli.specs.Top
