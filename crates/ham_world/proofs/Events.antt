@@ -19,13 +19,14 @@ use Rattle.ham_turns.specs.Words.{Intake, FrameComes, PartComes, numbered}
 use Rattle.ham_runs.specs.Runs.{Note, on_link, addressed}
 use Rattle.ham_runs.specs.Next.{Input, is_replica, may_take, taken_as, next_note, intake_of, after_input}
 use Rattle.ham_runs.specs.Next.Input.{Deliver, Tear}
-use Rattle.ham_world.specs.Worlds.{all_sent, unless_full, on_link_refusal, is_ascending}
+use Rattle.ham_world.specs.Worlds.{all_sent, unless_full, on_link_refusal}
+use Rattle.ham_wire.specs.Cuts.{is_ascending}
 use Rattle.ham_turns.specs.Settings.{rules_of, setting_of}
 use Rattle.ham_frame.specs.Spelling.{spelling, Fits}
 use Rattle.ham_frame.specs.Spelling.{AllFit, stream, IsViable}
 use Rattle.ham_frame.specs.Decoding.{Fed}
-use Rattle.ham_world.specs.Streams.{IsIdle}
-use Rattle.ham_world.specs.Streams.{IsStream, ReadsAll}
+use Rattle.ham_wire.specs.Streams.{IsIdle}
+use Rattle.ham_wire.specs.Streams.{IsStream, ReadsAll}
 use Rattle.ham_world.specs.declared.note.Note.{Note as Told}
 use Rattle.ham_replica.specs.Values.{Replica}
 use Rattle.ham_world.specs.Keeping.{Goes, Keeps, AreIdle}

@@ -1,8 +1,4 @@
-pub mod Results
 pub mod Each
-pub mod Spans
-pub mod Cuts
-pub mod Decoded
 pub mod Asked
 pub mod Noted
 pub mod Sent

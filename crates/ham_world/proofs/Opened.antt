@@ -27,7 +27,7 @@ use Rattle.ham_replica.specs.Values.{Replica, words}
 use Rattle.ham_replica.specs.Opening.{opening_lists}
 use Rattle.ham_runs.specs.Runs.{words_of}
 use Rattle.ham_runs.specs.Next.{run_of}
-use Rattle.ham_world.specs.Streams.{IsIdle}
+use Rattle.ham_wire.specs.Streams.{IsIdle}
 use Rattle.ham_world.specs.Keeping.{notes_of, Keeps, IsKept}
 use Rattle.ham_world.specs.Opened.{site_of, opened}
 use Rattle.ham_world.proofs.Each.{each-replicate}

@@ -11,7 +11,8 @@ use Rattle.ham_frame.specs.Spelling.{stream}
 use Rattle.ham_world.specs.Worlds.{between, are_linked, cuts_fit, part_fits}
 use Rattle.ham_turns.specs.Settings.{Setting}
 use Rattle.ham_runs.specs.Runs.{Note}
-use Rattle.ham_world.specs.Worlds.{on_link_refusal, unless_full, is_ascending}
+use Rattle.ham_world.specs.Worlds.{on_link_refusal, unless_full}
+use Rattle.ham_wire.specs.Cuts.{is_ascending}
 use Rattle.std.proofs.lemmas.Bool.Decides.{nat_tests}
 use Rattle.ham_world.specs.declared.refusal.TheConstants.{MAX_STRETCH}
 use Rattle.ham_world.specs.declared.refusal.StepRefusal.TheVariants as step

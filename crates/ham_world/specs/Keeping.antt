@@ -32,7 +32,7 @@ use Rattle.ham_world.specs.declared.note.Took.{Took}
 use Rattle.ham_world.specs.declared.note.Took.TheVariants as tooks
 use Rattle.ham_world.specs.declared.note.Note.{Note as Told}
 use Rattle.ham_world.specs.Worlds.{all_sent, shown}
-use Rattle.ham_world.specs.Streams.{IsIdle}
+use Rattle.ham_wire.specs.Streams.{IsIdle}
 use Rattle.ham_world.specs.Sending.{AreLinks}
 
 -- ---- the run of the kept notes

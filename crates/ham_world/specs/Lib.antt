@@ -1,6 +1,4 @@
 pub mod Worlds
-pub mod Links
-pub mod Streams
 pub mod Sending
 pub mod Keeping
 pub mod Stepping
@@ -8,3 +6,6 @@ pub mod Parted
 pub mod Kept
 pub mod Opened
 pub mod Claims
+pub use Rattle.ham_wire.specs.Links
+pub use Rattle.ham_wire.specs.Cuts
+pub use Rattle.ham_wire.specs.Streams

@@ -16,6 +16,7 @@ use Rattle.ham_plan.specs.Plans.{Plan}
 use Rattle.ham_frame.specs.declared.frame.Frame.{Frame}
 use Rattle.ham_frame.specs.declared.frame.Ruling.{Ruling}
 use Rattle.ham_frame.specs.Spelling.{spelling, stream}
+use Rattle.ham_wire.specs.Cuts.{is_ascending}
 use Rattle.ham_resend.specs.declared.asks.Asked.{Asked}
 use Rattle.ham_resend.specs.declared.asks.Asked.TheVariants as known
 use Rattle.ham_resend.specs.Asking.{asked_with}
@@ -68,10 +69,6 @@ on_link_refusal y notes from to sent good =
     else if not sent then Some step.NoSuchFrame
     else if not good then Some step.BadCut
     else unless_full notes None
-
-abbrev pub is_ascending : ℕ → List ℕ → ℕ → Bool
-is_ascending after [] end = true
-is_ascending after (c ∷ cs) end = (nat_lt after c && nat_lt c end) && is_ascending c cs end
 
 abbrev pub inputs_of : Event → List Input
 inputs_of (events.Issue r a) = Issue r a ∷ []

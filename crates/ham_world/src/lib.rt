@@ -3,10 +3,8 @@
 
 mod ask;
 mod compare;
-mod decode;
 mod event;
 pub mod laws;
-mod link;
 mod look;
 pub mod note;
 mod open;

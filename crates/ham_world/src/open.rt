@@ -4,13 +4,13 @@ ghost use Rattle.std.specs.Prelude.{◌≡◌, ◌-◌, ℕ, [], Some, None, IfO
 ghost use Rattle.ham_turns.specs.Settings.{setting_of, IsReplica};
 ghost use Rattle.ham_world.specs.Opened.{opened};
 
-use crate::link::Link;
 use crate::send::LINKS;
 use ham_frame::Decoder;
 use ham_lists::NoMemory;
 use ham_plan::Plan;
 use ham_replica::Replica;
 use ham_syntax::Object;
+use ham_wire::Link;
 use std::alloc::Global;
 
 /// The replicas from 1 on.

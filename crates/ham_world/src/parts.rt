@@ -5,7 +5,6 @@ ghost use Rattle.std.specs.List.{AllByRecursion};
 ghost use Rattle.ham_site.specs.Outs.{most_frames};
 ghost use Rattle.ham_world.specs.Sending.{Sends, IsOnLink};
 
-use crate::link::Link;
 use crate::note::{Note, Took};
 use crate::send::{LINKS, send};
 use ham_frame::Decoder;
@@ -16,6 +15,7 @@ use ham_site::Outs;
 use ham_syntax::limits::MAX_REPLICAS;
 use ham_syntax::{Object, Places};
 use ham_turns::What;
+use ham_wire::Link;
 
 /// What a world is made of. The notes are kept with the oldest first; a call is spelled into `spelled`, and from there put
 /// on each link.

@@ -9,14 +9,15 @@ ghost use Rattle.ham_runs.specs.Runs.{Note, on_link};
 ghost use Rattle.ham_runs.specs.Next as runs;
 ghost use Rattle.ham_world.specs.declared.refusal.StepRefusal.TheVariants as step;
 ghost use Rattle.ham_world.specs.Sending.{AreLinks};
+ghost use Rattle.ham_wire.specs.Cuts.{is_ascending};
 ghost use Rattle.ham_world.specs.Worlds as worlds;
 
-use crate::link::Link;
 use crate::refusal::{MAX_STRETCH, StepRefusal};
 use crate::send::{LINKS, place};
 use ham_plan::Plan;
 use ham_syntax::limits::{MAX_REPLICAS, MAX_SENT_FRAMES};
 use ham_turns::Event;
+use ham_wire::Link;
 
 /// Whether a replica has the number.
 #[tactic(auto, unfolding(ham_turns::specs::Settings::setting_of))]
@@ -48,7 +49,7 @@ pub(crate) fn is_sent(link: &Link, number: u64) -> bool
 
 /// Whether the cuts ascend, above a place and below the end.
 fn ascend(cuts: &[u64], end: u64) -> bool
-    ensures { result ≡ worlds.is_ascending 0 cuts.now end }
+    ensures { result ≡ is_ascending 0 cuts.now end }
 {
     let mut last = 0;
     for cut in cuts {

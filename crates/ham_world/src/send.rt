@@ -9,13 +9,13 @@ ghost use Rattle.ham_frame.specs.Spelling.{spelling};
 ghost use Rattle.ham_site.specs.Outs.{calls_to, most_frames};
 ghost use Rattle.ham_world.specs.Sending.{Sends, IsOnLink, place_of_link, copy_to, copies, first_but};
 
-use crate::link::Link;
 use ham_frame::{Frame, put_frame};
 use ham_lists::{Bytes, NoMemory};
 use ham_site::Outs;
 use ham_syntax::Call;
 use ham_syntax::limits::MAX_REPLICAS;
 use ham_turns::Out;
+use ham_wire::Link;
 
 /// Links, and decoders, are kept for as many replicas as there may be, whatever their number is.
 pub(crate) const LINKS: usize = MAX_REPLICAS * MAX_REPLICAS;

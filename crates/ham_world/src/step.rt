@@ -9,13 +9,11 @@ ghost use Rattle.ham_turns.specs.Words.{numbered};
 ghost use Rattle.ham_runs.specs.Runs.{on_link};
 ghost use Rattle.ham_runs.specs.Next.Input.{Deliver, Tear};
 ghost use Rattle.ham_world.specs.Worlds.{cuts_fit, part_fits, between};
-ghost use Rattle.ham_world.specs.Streams.{IsIdle};
+ghost use Rattle.ham_wire.specs.Streams.{IsIdle};
 ghost use Rattle.ham_world.specs.Keeping.{AreIdle};
 ghost use Rattle.ham_world.specs.Stepping.{IsLinked};
 ghost use Rattle.ham_world.specs.Parted.{setting_at, run_at, IsNoted, Agrees, Makes, StopsIn};
 
-use crate::decode::{decode, feed};
-use crate::link::Link;
 use crate::parts::Parts;
 use crate::refusal::MAX_STRETCH;
 use crate::send::{LINKS, place};
@@ -24,6 +22,7 @@ use ham_frame::laws::spellings_are_short;
 use ham_frame::{Decoder, Frame, Frames};
 use ham_lists::{Items, NoMemory};
 use ham_syntax::limits::MAX_SENT_FRAMES;
+use ham_wire::{Link, decode, feed};
 use std::alloc::Global;
 
 /// How many bytes a decoder is fed before a new one takes its place.

@@ -1,5 +1,5 @@
 use Rattle.std.proofs.Common.{◌≡◌, drop}
-use Rattle.ham_world.specs.Worlds.{is_ascending}
+use Rattle.ham_wire.specs.Cuts.{is_ascending}
 use Rattle.ham_world.proofs.refuse.ascend.Given as goal
 
 abbrev pub invariant-loop-cut : goal.invariant-loop-cut

@@ -7,7 +7,7 @@ use Rattle.ham_frame.specs.declared.frame.Frame.{Frame}
 use Rattle.ham_frame.specs.declared.frame.Frame.TheVariants as frames
 use Rattle.ham_frame.specs.Spelling.{Fits, AllFit, spelling, stream, IsViable, IsUnfinished, IsFault}
 use Rattle.ham_frame.specs.Decoding.{Fed, Reads}
-use Rattle.ham_world.specs.Streams.{IsIdle, IsStream, ReadsAll}
+use Rattle.ham_wire.specs.Streams.{IsIdle, IsStream, ReadsAll}
 
 -- ---- the laws of spellings
 

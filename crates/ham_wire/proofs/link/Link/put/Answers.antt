@@ -1,8 +1,8 @@
 use Rattle.std.proofs.Common.{◌≡◌, ◌++◌, ◌≤◌, ◌∷◌, [], length, ◌∙◌, arith, length-append}
 use Rattle.std.proofs.lemmas.Grind.{common_steps}
 use Rattle.ham_frame.specs.Spelling.{spelling}
-use Rattle.ham_world.proofs.Spans.{AscendTo-push, parts-push}
-use Rattle.ham_world.proofs.link.Link.put.Goals as goal
+use Rattle.ham_wire.proofs.Spans.{AscendTo-push, parts-push}
+use Rattle.ham_wire.proofs.link.Link.put.Goals as goal
 
 bytes_are : (c : goal.After-push_reserved) → c.put_frame.new.out ≡ c.self.inside.bytes ++ spelling c.args.frame.now
 bytes_are c = grind (arith, common_steps)

@@ -2,7 +2,7 @@
 use Rattle.std.proofs.Common.{◌≡◌, ℕ, ◌+◌, ◌-◌, ◌<◌, ◌≤◌, List, ◌∷◌, true, length, take, drop, get_or, arith}
 use Rattle.std.proofs.lemmas.List.{drop_more, length-take-le, length-drop}
 use Rattle.std.proofs.lemmas.Grind.{common_steps}
-use Rattle.ham_world.specs.Worlds.{is_ascending}
+use Rattle.ham_wire.specs.Cuts.{is_ascending}
 
 pub record Cut (after cut end : ℕ) (more : List ℕ) : Type 0 where
   pub above : after < cut

@@ -3,7 +3,7 @@
 ghost use Rattle.std.specs.Prelude.{◌≡◌, ◌-◌, ◌+◌, ◌++◌, ◌≤◌, ◌∷◌, [], length, take, drop, OnOk, OnErr};
 ghost use Rattle.std.specs.List.{flat_map};
 ghost use Rattle.ham_frame.specs.Spelling.{Fits, spelling};
-ghost use Rattle.ham_world.specs.Links as lists;
+ghost use Rattle.ham_wire.specs.Links as lists;
 
 use ham_frame::{Frame, put_frame};
 use ham_lists::{Bytes, Items, NoMemory};
@@ -12,7 +12,7 @@ use std::marker::Model;
 
 /// The spelled frames of a link, one after another.
 #[derive(Drop)]
-pub(crate) struct Link {
+pub struct Link {
     bytes: Bytes,
     ends: Vec<usize>,
 }
@@ -22,7 +22,7 @@ impl Model for Link {
 
     ghost Value = { List (List ℕ) };
 
-    ghost use Rattle.ham_world.specs.Links.{parts, AscendTo};
+    ghost use Rattle.ham_wire.specs.Links.{parts, AscendTo};
 
     ghost view = { λ l. parts 0 l.ends.items l.bytes };
 
@@ -31,7 +31,7 @@ impl Model for Link {
 
 impl Link {
     /// Nothing was sent.
-    pub(crate) fn new(alloc: Global) -> Self
+    pub fn new(alloc: Global) -> Self
         ensures { result ≡ [] }
     {
         Link {
@@ -41,14 +41,14 @@ impl Link {
     }
 
     /// How many frames were sent.
-    pub(crate) fn len(&self) -> usize
+    pub fn len(&self) -> usize
         ensures { result ≡ length self.now }
     {
         self.ends.as_slice().len()
     }
 
     /// Puts a spelled frame last.
-    pub(crate) fn push(&mut self, frame: &[u8]) -> Result<(), NoMemory>
+    pub fn push(&mut self, frame: &[u8]) -> Result<(), NoMemory>
         ensures ok { OnOk result (self.new ≡ self.old ++ frame.now ∷ []) }
         ensures err { OnErr result (self.new ≡ self.old) }
     {
@@ -64,7 +64,7 @@ impl Link {
     }
 
     /// Spells a frame, and puts it last.
-    pub(crate) fn put(&mut self, frame: &Frame) -> Result<(), NoMemory>
+    pub fn put(&mut self, frame: &Frame) -> Result<(), NoMemory>
         requires { Fits frame.now }
         ensures ok { OnOk result (self.new ≡ self.old ++ spelling frame.now ∷ []) }
         ensures err { OnErr result (self.new ≡ self.old) }
@@ -81,7 +81,7 @@ impl Link {
     }
 
     /// The frames from the `first`-th to the `last`-th, joined.
-    pub(crate) fn span(&self, first: usize, last: usize) -> &[u8]
+    pub fn span(&self, first: usize, last: usize) -> &[u8]
         requires first { 1 ≤ first }
         requires some { first ≤ last }
         requires last { last ≤ length self.now }

@@ -1,6 +1,6 @@
 use Rattle.std.proofs.Common.{◌≡◌, ◌+◌, ◌-◌, ◌≤◌, arith, length}
-use Rattle.ham_world.proofs.Spans.{parts-span, length-parts}
-use Rattle.ham_world.proofs.link.Link.span.Goals as goal
+use Rattle.ham_wire.proofs.Spans.{parts-span, length-parts}
+use Rattle.ham_wire.proofs.link.Link.span.Goals as goal
 
 pub part-requires-clause-last : goal.part-requires-clause-last
 part-requires-clause-last c =

@@ -1,7 +1,7 @@
 use Rattle.std.proofs.Common.{refl, ap}
 use Rattle.std.specs.Prelude.{Err}
-use Rattle.ham_world.proofs.Decoded.{no_fault}
-use Rattle.ham_world.proofs.decode.feed.Goals as goal
+use Rattle.ham_wire.proofs.Decoded.{no_fault}
+use Rattle.ham_wire.proofs.pieces.feed.Goals as goal
 
 pub unreachable-requires : goal.unreachable-requires
 unreachable-requires c =

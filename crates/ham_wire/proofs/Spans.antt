@@ -3,7 +3,7 @@ use Rattle.std.proofs.Common.{◌≡◌, ℕ, zero, suc, ◌+◌, ◌-◌, ◌<�
 use Rattle.std.specs.List.{flat_map}
 use Rattle.std.proofs.lemmas.List.{drop-drop, take_all, drop_at, take-append-le, drop-append-le, length-drop}
 use Rattle.std.proofs.Math.Seq.{take-add}
-use Rattle.ham_world.specs.Links.{parts, AscendTo, end_at}
+use Rattle.ham_wire.specs.Links.{parts, AscendTo, end_at}
 
 pub length-parts : (from : ℕ) (ends bytes : List ℕ) → length (parts from ends bytes) ≡ length ends
 length-parts from [] bytes = refl

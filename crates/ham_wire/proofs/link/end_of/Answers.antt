@@ -1,7 +1,7 @@
 use Rattle.std.proofs.Common.{◌≡◌, ◌-◌, ◌<◌, suc, arith, length, sym, ap, ◌∙◌}
-use Rattle.ham_world.specs.Links.{end_at}
-use Rattle.ham_world.proofs.Spans.{end_at-get}
-use Rattle.ham_world.proofs.link.end_of.Goals as goal
+use Rattle.ham_wire.specs.Links.{end_at}
+use Rattle.ham_wire.proofs.Spans.{end_at-get}
+use Rattle.ham_wire.proofs.link.end_of.Goals as goal
 
 pub returns-else-number-eq0 : goal.returns-else-number-eq0
 returns-else-number-eq0 c =

@@ -1,7 +1,7 @@
 use Rattle.std.proofs.Common.{◌≡◌, ◌≤◌, true, length, drop}
-use Rattle.ham_world.specs.Worlds.{is_ascending}
-use Rattle.ham_world.proofs.Decoded.{IsReading}
-use Rattle.ham_world.proofs.decode.decode.Given as goal
+use Rattle.ham_wire.specs.Cuts.{is_ascending}
+use Rattle.ham_wire.proofs.Decoded.{IsReading}
+use Rattle.ham_wire.proofs.pieces.decode.Given as goal
 
 abbrev pub invariant-loop-cut : goal.invariant-loop-cut
 invariant-loop-cut l =

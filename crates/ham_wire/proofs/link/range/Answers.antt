@@ -1,6 +1,6 @@
 use Rattle.std.proofs.Common.{◌≤◌, arith, length}
-use Rattle.ham_world.proofs.Spans.{end_at-le, end_at-ge}
-use Rattle.ham_world.proofs.link.range.Goals as goal
+use Rattle.ham_wire.proofs.Spans.{end_at-le, end_at-ge}
+use Rattle.ham_wire.proofs.link.range.Goals as goal
 
 pub returns : goal.returns
 returns c =

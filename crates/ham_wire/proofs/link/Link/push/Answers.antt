@@ -1,7 +1,7 @@
 use Rattle.std.proofs.Common.{◌≡◌, ◌++◌, ◌≤◌, ◌∷◌, [], length, ◌∙◌, arith, length-append}
 use Rattle.std.proofs.lemmas.Grind.{common_steps}
-use Rattle.ham_world.proofs.Spans.{AscendTo-push, parts-push}
-use Rattle.ham_world.proofs.link.Link.push.Goals as goal
+use Rattle.ham_wire.proofs.Spans.{AscendTo-push, parts-push}
+use Rattle.ham_wire.proofs.link.Link.push.Goals as goal
 
 bytes_are : (c : goal.After-push_reserved) → c.extend.new.self ≡ c.self.inside.bytes ++ c.args.frame.now
 bytes_are c = grind (arith, common_steps)

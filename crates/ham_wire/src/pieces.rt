@@ -3,15 +3,15 @@
 ghost use Rattle.std.specs.Prelude.{◌≡◌, ◌+◌, ◌++◌, ◌≤◌, ◌^◌, length, OnOk, None, true};
 ghost use Rattle.ham_frame.specs.Spelling.{IsViable, IsUnfinished};
 ghost use Rattle.ham_frame.specs.Decoding.{Reads};
-ghost use Rattle.ham_world.specs.Worlds.{is_ascending};
-ghost use Rattle.ham_world.specs.Streams.{IsIdle, IsStream, ReadsAll};
+ghost use Rattle.ham_wire.specs.Cuts.{is_ascending};
+ghost use Rattle.ham_wire.specs.Streams.{IsIdle, IsStream, ReadsAll};
 
 use ham_frame::laws::{frames_are_the_only_ones, readings_join, spellings_are_apart};
 use ham_frame::{Decoder, FrameFault, Frames};
 use ham_lists::NoMemory;
 
 /// Feeds a piece that frames go on with.
-pub(crate) fn feed(decoder: &mut Decoder, piece: &[u8], frames: &mut Frames) -> Result<(), NoMemory>
+pub fn feed(decoder: &mut Decoder, piece: &[u8], frames: &mut Frames) -> Result<(), NoMemory>
     requires room { decoder.old.total + length piece.now ≤ 2 ^ 62 }
     requires working { decoder.old.fault ≡ None }
     requires viable { IsViable (decoder.old.rest ++ piece.now) }
@@ -27,7 +27,7 @@ pub(crate) fn feed(decoder: &mut Decoder, piece: &[u8], frames: &mut Frames) -> 
 }
 
 /// Feeds the spelling of frames, cut at these places: the frames come out, however they were cut.
-pub(crate) fn decode(
+pub fn decode(
     decoder: &mut Decoder,
     bytes: &[u8],
     cuts: &[u64],

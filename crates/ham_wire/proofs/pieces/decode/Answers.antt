@@ -1,9 +1,9 @@
 use Rattle.std.proofs.Common.{◌≡◌, ◌-◌, ◌≤◌, None, arith, length, get_or, take, drop}
 use Rattle.ham_frame.specs.Decoding.{Reads}
-use Rattle.ham_world.proofs.Results.{ok_both}
-use Rattle.ham_world.proofs.Decoded.{IsReading, begun, read_more, piece_viable, few_read, all_read}
-use Rattle.ham_world.proofs.Cuts.{cut_at}
-use Rattle.ham_world.proofs.decode.decode.Goals as goal
+use Rattle.ham_wire.proofs.Results.{ok_both}
+use Rattle.ham_wire.proofs.Decoded.{IsReading, begun, read_more, piece_viable, few_read, all_read}
+use Rattle.ham_wire.proofs.Cuts.{cut_at}
+use Rattle.ham_wire.proofs.pieces.decode.Goals as goal
 
 pub loop-cut-init : goal.loop-cut-init
 loop-cut-init c = (begun c.args.bytes.now c.args.frames.now c.args.decoder.now c.requires.idle, c.requires.cuts, omega arith)

@@ -1,0 +1,4 @@
+pub mod Results
+pub mod Spans
+pub mod Cuts
+pub mod Decoded
