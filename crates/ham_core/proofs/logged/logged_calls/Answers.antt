@@ -13,7 +13,7 @@ logged_call-requires c =
 
 pub loop-place-preserved : goal.loop-place-preserved
 loop-place-preserved c =
-    call_more c.args.replica.now.lists c.log-log.result.now c.loop-place.place-index none c.in_ok-logged_call.call _ _ c.log-log.ensures.log c.loop-place-test.true c.in_ok-logged_call.ensures c.loop-place.invariant c.in_ok-push.ensures.items
+    call_more c.args.replica.now.lists c.log-log.result.now c.loop-place.place-index none c.in_ok-logged_call.field-0 _ _ c.log-log.ensures.log c.loop-place-test.true c.in_ok-logged_call.ensures c.loop-place.invariant c.in_ok-push.ensures.items
 
 pub returns : goal.returns
 returns c =
