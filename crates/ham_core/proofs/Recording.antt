@@ -57,9 +57,10 @@ one_found h (p ∷ log) (suc i) d c lt e =
 pub call_more : (v : Lists) (log : List Place) (i : ℕ) (d : Place) (c : Call) (old new : List Call) → log ≡ v.log → i < length log → call_had (words v) (get_or log i d) ≡ Some c
     → old ≡ filter_map (call_had (words v)) (take i v.log) → new ≡ old ++ c ∷ [] → new ≡ filter_map (call_had (words v)) (take (i + 1) v.log)
 call_more v log i d c old new is lt e so more =
-    more ∙ ap (λ (l : List Call). l ++ c ∷ []) so
-    ∙ sym (subst (λ (l : List Place). filter_map (call_had (words v)) (take (suc i) l) ≡ filter_map (call_had (words v)) (take i l) ++ c ∷ []) is (one_found (call_had (words v)) log i d c lt e))
-    ∙ ap (λ (n : ℕ). filter_map (call_had (words v)) (take n v.log)) (omega arith)
+    let next : suc i ≡ i + 1 = omega arith in
+    let one : filter_map (call_had (words v)) (take (suc i) v.log) ≡ filter_map (call_had (words v)) (take i v.log) ++ c ∷ [] =
+    subst (λ (l : List Place). filter_map (call_had (words v)) (take (suc i) l) ≡ filter_map (call_had (words v)) (take i l) ++ c ∷ []) is (one_found (call_had (words v)) log i d c lt e) in
+    more ∙ ap (λ (l : List Call). l ++ c ∷ []) so ∙ sym one ∙ ap (λ (n : ℕ). filter_map (call_had (words v)) (take n v.log)) next
 
 pub all_found : (v : Lists) (log : List Place) (i : ℕ) (calls : List Call) → log ≡ v.log → length log ≤ i → calls ≡ filter_map (call_had (words v)) (take i v.log) → calls ≡ recorded (words v)
 all_found v log i calls is past e =
