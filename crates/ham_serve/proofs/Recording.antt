@@ -1,6 +1,6 @@
 -- A call's line, written piece by piece, and the lines of recorded calls.
-use Rattle.std.proofs.Common.{◌≡◌, ℕ, ◌<◌, ◌≤◌, Bool, List, [], ◌∷◌, ◌++◌, length, map, if◌then◌else◌, refl, sym, ap, ◌∙◌, append_assoc}
-use Rattle.std.proofs.lemmas.Bool.{lt-ltb, le-ltb}
+use Rattle.std.proofs.Common.{◌≡◌, ℕ, ◌<◌, Bool, List, [], ◌∷◌, ◌++◌, length, map, if◌then◌else◌, refl, sym, ap, ◌∙◌, append_assoc}
+use Rattle.std.proofs.lemmas.Bool.{lt-ltb}
 use Rattle.std.specs.Prelude.{codes}
 use Rattle.std.specs.Fmt.{decimal}
 use Rattle.std.specs.List.{AllByRecursion, flat_map}
@@ -21,15 +21,10 @@ call_put w l k m args t word lane number method a b c d =
     ∙ regrouped t (10 ∷ w) (32 ∷ l) (32 ∷ k) (32 ∷ m) (spaced args)
     ∙ ap (λ z. t ++ 10 ∷ z) (sym (joined_spaced w (l ∷ k ∷ m ∷ args)))
 
--- ---- the word of a method
-
-pub named_word : (o : Schema) (m : ℕ) → m < length o.methods → method_word o m ≡ method_name o m
-named_word o m h = ap (λ (b : Bool). if b then method_name o m else decimal m) (lt-ltb m (length o.methods) h)
-
-pub numbered_word : (o : Schema) (m : ℕ) → length o.methods ≤ m → method_word o m ≡ decimal m
-numbered_word o m h = ap (λ (b : Bool). if b then method_name o m else decimal m) (le-ltb m (length o.methods) h)
-
 -- ---- lines of records
+
+named_word : (o : Schema) (m : ℕ) → m < length o.methods → method_word o m ≡ method_name o m
+named_word o m h = ap (λ (b : Bool). if b then method_name o m else decimal m) (lt-ltb m (length o.methods) h)
 
 same_words : (o : Schema) (c : Call) → c.act.method < length o.methods → call_words o c ≡ records.call_words o (logged_of c)
 same_words o c h =
