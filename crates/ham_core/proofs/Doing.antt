@@ -43,7 +43,7 @@ use Rattle.ham_journal.specs.declared.input.Reply.{Reply}
 use Rattle.ham_journal.specs.declared.input.Reply.TheVariants as replies
 use Rattle.ham_journal.specs.Drains.{drained}
 use Rattle.ham_journal.specs.Cores as journal
-use Rattle.ham_journal.specs.Cores.{Core, asked_at, lane_counts, turn, step, box_of, boxed, reply_of, sent_in}
+use Rattle.ham_journal.specs.Cores.{Core, asked_at, lane_counts, recorded, turn, step, box_of, boxed, reply_of, sent_in}
 use Rattle.ham_journal.specs.Closed.{IsPlaced}
 use Rattle.ham_journal.specs.Replies.{IsFromPeer, FitsReply, MayEnter}
 use Rattle.ham_journal.specs.Histories.{core_by, Works}
@@ -285,6 +285,11 @@ counts_do old held stopped input counts ready sound s i many each =
     looks old held stopped input inputs.Counts (replies.Counts counts) ready sound s i
     (ap (λ (z : List ℕ). Some (record { core = core_in old held false; reply = replies.Counts z })) (lanes_counted counts old.lists.log (setting_of old.site.plan).lanes many each)) (λ frames q. cc)
 
+pub record_does : (old : Replica) (held : List (List Waiting)) (stopped : Bool) (input : Input) (calls : List Call) → IsSettled (setting_of old.site.plan) (words old.lists) → AreSoundIn old held
+    → stopped ≡ false → input ≡ inputs.Record → calls ≡ recorded (words old.lists) → Does old old held held stopped input 0 marks.Done (replies.Recorded calls)
+record_does old held stopped input calls ready sound s i e =
+    looks old held stopped input inputs.Record (replies.Recorded calls) ready sound s i (ap (λ (z : List Call). Some (record { core = core_in old held false; reply = replies.Recorded z })) (sym e)) (λ frames q. cc)
+
 pub stop_does : (old : Replica) (held : List (List Waiting)) (stopped : Bool) (input : Input) → IsSettled (setting_of old.site.plan) (words old.lists) → AreSoundIn old held
     → stopped ≡ true → input ≡ inputs.Stop → Does old old held held stopped input 0 marks.Done replies.Stopping
 stop_does old held stopped input ready sound s i =
@@ -324,6 +329,7 @@ collect_does old held held' peer fs ready sound f b = record {
     frames_in (replies.Asked a) = []
     frames_in (replies.Log log) = []
     frames_in (replies.Counts counts) = []
+    frames_in (replies.Recorded calls) = []
     frames_in replies.Stopping = []
     frames_in replies.Stopped = []
     frames_in replies.Full = []

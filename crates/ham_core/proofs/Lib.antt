@@ -5,3 +5,4 @@ pub mod Boxed
 pub mod Doing
 pub mod Keeps
 pub mod Begun
+pub mod Recording

@@ -44,6 +44,7 @@ Moves (replies.Rows rows) n n' = n' ≡ n + 1
 Moves (replies.Asked a) n n' = n' ≡ n + 1
 Moves (replies.Log log) n n' = n' ≡ n + 1
 Moves (replies.Counts counts) n n' = n' ≡ n + 1
+Moves (replies.Recorded calls) n n' = n' ≡ n + 1
 Moves replies.Stopping n n' = n' ≡ n + 1
 
 -- the counts that an answer raises: of stops, of Fulls, of refused deliveries
@@ -62,4 +63,5 @@ Causes (replies.Rows rows) s s' f f' r r' = ⊤
 Causes (replies.Asked a) s s' f f' r r' = ⊤
 Causes (replies.Log log) s s' f f' r r' = ⊤
 Causes (replies.Counts counts) s s' f f' r r' = ⊤
+Causes (replies.Recorded calls) s s' f f' r r' = ⊤
 Causes replies.NoMemory s s' f f' r r' = ⊤

@@ -103,6 +103,7 @@ pub fn count(tally: &mut Tally, reply: &Reply)
         Reply::Asked(_) => {}
         Reply::Log(_) => {}
         Reply::Counts(_) => {}
+        Reply::Recorded(_) => {}
         Reply::NoMemory => {}
     }
 }

@@ -5,6 +5,7 @@
 mod boxes;
 pub mod door;
 pub mod guarded;
+mod logged;
 mod marks;
 pub mod seats;
 mod waiting;

@@ -60,6 +60,7 @@ fn is_stop(input: &Input) -> bool
         Input::Verdict { .. } => false,
         Input::Log => false,
         Input::Counts => false,
+        Input::Record => false,
     }
 }
 
@@ -79,6 +80,7 @@ fn is_nothing(reply: &Reply) -> bool
         Reply::Asked(_) => false,
         Reply::Log(_) => false,
         Reply::Counts(_) => false,
+        Reply::Recorded(_) => false,
         Reply::Stopping => false,
         Reply::Stopped => false,
         Reply::Full => false,

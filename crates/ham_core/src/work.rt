@@ -11,6 +11,7 @@ ghost use Rattle.ham_journal.specs.Closed.{IsPlaced};
 ghost use Rattle.ham_core.specs.Kept.{Does, Makes, AreSoundIn};
 
 use crate::boxes::Boxes;
+use crate::logged::logged_calls;
 use crate::marks::{mark, not_delivered, not_issued};
 use ham_frame::Frame;
 use ham_journal::{Entry, Input, Mark, Reply};
@@ -161,6 +162,10 @@ fn work(
         },
         Input::Counts => match Items::of(alloc, replica.counts()) {
             Ok(counts) => (0, Mark::Done, Reply::Counts(counts)),
+            Err(_) => (0, Mark::NoMemory, Reply::NoMemory),
+        },
+        Input::Record => match logged_calls(alloc, replica) {
+            Ok(calls) => (0, Mark::Done, Reply::Recorded(calls)),
             Err(_) => (0, Mark::NoMemory, Reply::NoMemory),
         },
         Input::Stop => {

@@ -24,6 +24,7 @@ fn clients_issue_and_ask(rt: HostRuntime) -> Result<(), Fail> {
         ),
         ("log", ClientLine::Log),
         ("counts", ClientLine::Counts),
+        ("record", ClientLine::Record),
         ("quit", ClientLine::Quit),
         ("stop ", ClientLine::Stop),
     ];

@@ -1,6 +1,7 @@
--- A history leaves a log that is closed by its frames.
+-- A history leaves a log that is closed by its frames, and what is recorded of it are the calls of that log.
 use Rattle.std.proofs.Common.{◌≡◌, ◌≢◌, ℕ, zero, suc, ◌+◌, ◌≤◌, Bool, true, false, List, [], ◌∷◌, ◌++◌, length, map, cond, if◌then◌else◌, Option, Some, None, refl, sym, ap, subst, ◌∙◌, inl, inr, arith}
-use Rattle.std.specs.Prelude.{count_by, ◌==◌, ◌-◌}
+use Rattle.std.specs.Prelude.{count_by, ◌==◌, ◌-◌, filter_map}
+use Rattle.std.specs.List.{cons_option}
 use Rattle.std.proofs.lemmas.List.Recursion.{is_count_by}
 use Rattle.std.proofs.lemmas.List.{map-append, length-append}
 use Rattle.std.proofs.lemmas.Bool.{eqb-true, eq-eqb}
@@ -21,11 +22,11 @@ use Rattle.ham_journal.specs.declared.input.Reply.TheVariants as replies
 use Rattle.ham_turns.specs.Settings.{rules_of, setting_of, Rules, Setting}
 use Rattle.ham_journal.specs.Replies.{MayEnter, AllMayEnter}
 use Rattle.ham_journal.specs.Histories.{HasCore, opening_words, opening_core}
-use Rattle.ham_journal.specs.Cores.{Core, Answered, told, turn, issued, delivered, collected, step, entered, history}
+use Rattle.ham_journal.specs.Cores.{Core, Answered, told, turn, issued, delivered, collected, call_had, step, entered, history}
 use Rattle.ham_journal.specs.Drains.{drained, least_ready}
 use Rattle.ham_syntax.specs.Objects.{Schema}
 use Rattle.ham_plan.specs.Plans.{Plan}
-use Rattle.ham_journal.specs.Closed.{IsPlaced, of_lane, of_slot, Reached, Nothing, Then, IsHad, AllHad, IsClosed, HistoriesClosed}
+use Rattle.ham_journal.specs.Closed.{IsPlaced, of_lane, of_slot, Reached, Nothing, Then, IsHad, AllHad, IsClosed, HistoriesClosed, HistoriesRecorded}
 use Rattle.ham_turns.specs.Refusals.{issue_refusal, deliver_refusal}
 use Rattle.ham_turns.specs.Words.{ReplicaWords, Intake, ActComes, FrameComes, Beat, place_of, in_lane, numbered}
 use Rattle.ham_turns.specs.Work.{logged_one, logged_made, taken, own_work, answer_of, ruled_of, made_of, place_made, call_in, at_place, first_of_two, decided_after}
@@ -73,6 +74,7 @@ pub record Sound (y : Setting) (me : ℕ) (w : ReplicaWords) : Type 0 where
   pub own : (l : ℕ) → y.decider l ≡ me → length (w.decided l) ≡ count_by (of_lane l) closed.calls
   pub others : (p : Place) (c : Call) → w.kept p ≡ Some c → y.decider p.lane ≢ me
   pub placed : IsPlaced w
+  pub mine : (l n : ℕ) (c : Call) → numbered (w.decided l) n ≡ Some c → y.decider l ≡ me
 
 reached : (y : Setting) (w : ReplicaWords) (calls : List Call) (deps slots : List ℕ) → ((s : ℕ) → w.count_of s ≡ count_by (of_slot y s) calls) → IsWithin w deps slots → Reached y calls deps slots
 reached y w calls [] slots e h = tt
@@ -114,6 +116,7 @@ one_sound x y me w c r s =
           ∙ sym (count_more (of_lane l) k.calls c);
       others = s.others;
       placed = s.placed;
+      mine = s.mine;
     }
 
 -- and so is each of a drain
@@ -157,6 +160,11 @@ placed_more true calls c d l n f g h = elim (numbered_either calls c n d h) [
 ]
 placed_more false calls c d l n f g h = g h
 
+mine_more : (y : Setting) (me : ℕ) (b : Bool) (calls : List Call) (c d : Call) (l n : ℕ) → (b ≡ true → y.decider l ≡ me) → (numbered calls n ≡ Some d → y.decider l ≡ me)
+    → numbered (if b then calls ++ c ∷ [] else calls) n ≡ Some d → y.decider l ≡ me
+mine_more y me true calls c d l n f g h = f refl
+mine_more y me false calls c d l n f g h = g h
+
 own_parts : (x : Rules) (y : Setting) (me : ℕ) (w : ReplicaWords) (took : Intake) (answer : What) (ruled : Option Ruling) (made : Option Call)
     → Takes x y me w took → made_of x y w me took ≡ made → Sound y me w → Sound y me (logged_made x y (taken w took answer ruled made) made)
 own_parts x y me w took answer ruled None t e s =
@@ -167,6 +175,7 @@ own_parts x y me w took answer ruled None t e s =
       own = s.own;
       others = λ p c h. kept_other y me p (w.kept p) (at_place (call_in took) p) c (s.others p c) (t.brought p c) h;
       placed = s.placed;
+      mine = s.mine;
     }
 own_parts x y me w took answer ruled (Some c) t e s =
     let k = s.closed in
@@ -188,6 +197,7 @@ own_parts x y me w took answer ruled (Some c) t e s =
       own = λ l q. decided_grows (c.lane == l) (w.decided l) c ∙ ap (λ (n : ℕ). n + cond (c.lane == l) 1 0) (s.own l q) ∙ sym (count_more (of_lane l) k.calls c);
       others = λ p d h. kept_other y me p (w.kept p) (at_place (call_in took) p) d (s.others p d) (t.brought p d) h;
       placed = λ l n d h. placed_more (c.lane == l) (w.decided l) c d l n (λ q. (eqb-true c.lane l q, t.number c e ∙ ap (λ (z : ℕ). length (w.decided z) + 1) (eqb-true c.lane l q))) (s.placed l n d) h;
+      mine = λ l n d h. mine_more y me (c.lane == l) (w.decided l) c d l n (λ q. ap y.decider (sym (eqb-true c.lane l q)) ∙ here) (s.mine l n d) h;
     }
 
 own_sound : (x : Rules) (y : Setting) (me : ℕ) (w : ReplicaWords) (took : Intake) → Takes x y me w took → Sound y me w → Sound y me (own_work x y w me took)
@@ -223,6 +233,7 @@ step_sound x y me k (inputs.Rows relation) n a m e s = told_sound y me k _ n a e
 step_sound x y me k (inputs.Verdict group number) n a m e s = told_sound y me k _ n a e s
 step_sound x y me k inputs.Log n a m e s = told_sound y me k _ n a e s
 step_sound x y me k inputs.Counts n a m e s = told_sound y me k _ n a e s
+step_sound x y me k inputs.Record n a m e s = told_sound y me k _ n a e s
 step_sound x y me k inputs.Stop n a m e s = told_sound y me (record k { stopped = true }) _ n a e s
 
 entry_sound : (x : Rules) (y : Setting) (me : ℕ) (k : Core) (e : Entry) (a : Answered) → MayEnter y me e.input → entered x y me k e ≡ Some a → Sound y me k.words → Sound y me a.core.words
@@ -251,6 +262,7 @@ opening_sound x y me = record {
   own = λ l e. counted_is (of_lane l) [];
   others = λ p c h. absurd (none-some c h);
   placed = λ l n c h. absurd (none-some c (sym (nothing_numbered n) ∙ h));
+  mine = λ l n c h. absurd (none-some c (sym (nothing_numbered n) ∙ h));
 }
 
 pub histories_closed : HistoriesClosed
@@ -261,3 +273,25 @@ histories_closed o p me k es m h =
 pub histories_placed : (o : Schema) (p : Plan) (me : ℕ) (k : Core) (es : List Entry) → AllMayEnter (setting_of p) me es → HasCore o p me es k → IsPlaced k.words
 histories_placed o p me k es m h =
     (history_sound (rules_of o) (setting_of p) me (opening_core o p) k es m h (opening_sound (rules_of o) (setting_of p) me)).placed
+
+-- ---- what is recorded
+
+-- a call that is had is the one of its place
+had_found : (y : Setting) (me : ℕ) (w : ReplicaWords) (c : Call) → Sound y me w → IsHad w c → call_had w (place_of c) ≡ Some c
+had_found y me w c s (inl d) = ap (λ (o : Option Call). first_of_two o (w.kept (place_of c))) d
+had_found y me w c s (inr k) = by_decided (numbered (w.decided c.lane) c.number) refl
+  where
+    by_decided : (o : Option Call) → numbered (w.decided c.lane) c.number ≡ o → call_had w (place_of c) ≡ Some c
+    by_decided None e = ap (λ (o : Option Call). first_of_two o (w.kept (place_of c))) e ∙ k
+    by_decided (Some d) e = absurd (s.others (place_of c) c k (s.mine c.lane c.number d e))
+
+recorded_had : (y : Setting) (me : ℕ) (w : ReplicaWords) (calls : List Call) → Sound y me w → AllHad w calls → filter_map (call_had w) (map place_of calls) ≡ calls
+recorded_had y me w [] s h = refl
+recorded_had y me w (c ∷ calls) s h =
+    ap (λ (o : Option Call). cons_option o (filter_map (call_had w) (map place_of calls))) (had_found y me w c s h.0)
+    ∙ ap (λ (l : List Call). c ∷ l) (recorded_had y me w calls s h.1)
+
+pub histories_recorded : HistoriesRecorded
+histories_recorded o p me k es m h =
+    let s = history_sound (rules_of o) (setting_of p) me (opening_core o p) k es m h (opening_sound (rules_of o) (setting_of p) me) in
+    (s.closed, ap (filter_map (call_had k.words)) s.closed.log ∙ recorded_had (setting_of p) me k.words s.closed.calls s s.closed.had)

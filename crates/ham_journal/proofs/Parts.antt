@@ -208,6 +208,7 @@ step_says x y me k (inputs.Rows relation) n a e = tells_says k _ (inputs.Rows re
 step_says x y me k (inputs.Verdict group number) n a e = tells_says k _ (inputs.Verdict group number) _ n a e (_, refl) (λ _. refl) (λ q. absurd (cc))
 step_says x y me k inputs.Log n a e = tells_says k _ inputs.Log _ n a e (_, refl) (λ _. refl) (λ q. absurd (cc))
 step_says x y me k inputs.Counts n a e = tells_says k _ inputs.Counts _ n a e (_, refl) (λ _. refl) (λ q. absurd (cc))
+step_says x y me k inputs.Record n a e = tells_says k _ inputs.Record _ n a e (_, refl) (λ _. refl) (λ q. absurd (cc))
 step_says x y me k inputs.Stop n a e = tells_says k _ inputs.Stop _ n a e refl (λ h. absurd (h refl)) (λ _. refl)
 
 -- ---- a tick leaves the words
@@ -278,6 +279,7 @@ nothing_leaves x y me k (inputs.Rows relation) n a s e nothing = absurd (subst (
 nothing_leaves x y me k (inputs.Verdict group number) n a s e nothing = absurd (subst (λ (r : Reply). IsNothing r) (step_says x y me k (inputs.Verdict group number) n a e).kind.1 nothing)
 nothing_leaves x y me k inputs.Log n a s e nothing = absurd (subst (λ (r : Reply). IsNothing r) (step_says x y me k inputs.Log n a e).kind.1 nothing)
 nothing_leaves x y me k inputs.Counts n a s e nothing = absurd (subst (λ (r : Reply). IsNothing r) (step_says x y me k inputs.Counts n a e).kind.1 nothing)
+nothing_leaves x y me k inputs.Record n a s e nothing = absurd (subst (λ (r : Reply). IsNothing r) (step_says x y me k inputs.Record n a e).kind.1 nothing)
 nothing_leaves x y me k inputs.Stop n a s e nothing = absurd (subst (λ (r : Reply). IsNothing r) (step_says x y me k inputs.Stop n a e).kind nothing)
 
 -- and so does an entry of nothing with nothing to settle
@@ -323,6 +325,7 @@ answer_not (inputs.Rows relation) r h = let e : r ≡ replies.Rows h.0 = h.1 in 
 answer_not (inputs.Verdict group number) r h = let e : r ≡ replies.Asked h.0 = h.1 in (λ q. cc, λ q. cc)
 answer_not inputs.Log r h = let e : r ≡ replies.Log h.0 = h.1 in (λ q. cc, λ q. cc)
 answer_not inputs.Counts r h = let e : r ≡ replies.Counts h.0 = h.1 in (λ q. cc, λ q. cc)
+answer_not inputs.Record r h = let e : r ≡ replies.Recorded h.0 = h.1 in (λ q. cc, λ q. cc)
 answer_not inputs.Stop r h = let e : r ≡ replies.Stopping = h in (λ q. cc, λ q. cc)
 
 pub tells_not : (x : Rules) (y : Setting) (me : ℕ) (k new : Core) (e : Entry) (reply : Reply) → Tells x y me k new e reply → (reply ≢ replies.Stopped) × (reply ≢ replies.Full)

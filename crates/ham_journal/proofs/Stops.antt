@@ -63,6 +63,7 @@ stops x y me k e a h = by_input e.input refl
     by_input (inputs.Verdict group number) q = goes_on (λ z. absurd (cc))
     by_input inputs.Log q = goes_on (λ z. absurd (cc))
     by_input inputs.Counts q = goes_on (λ z. absurd (cc))
+    by_input inputs.Record q = goes_on (λ z. absurd (cc))
 
 none_after : (x : Rules) (y : Setting) (me : ℕ) (k0 k : Core) (es : List Entry) → k0.stopped ≡ true → history x y me k0 es ≡ Some k → k0 ≡ k
 none_after x y me k0 k [] s h = history_nil x y me k0 k h

@@ -7,7 +7,7 @@ use Rattle.ham_plan.specs.Plans.{Plan}
 use Rattle.ham_turns.specs.Settings.{Setting, setting_of}
 use Rattle.ham_turns.specs.Words.{ReplicaWords, place_of, numbered}
 use Rattle.ham_journal.specs.declared.entry.Entry.{Entry}
-use Rattle.ham_journal.specs.Cores.{Core}
+use Rattle.ham_journal.specs.Cores.{Core, recorded}
 use Rattle.ham_journal.specs.Replies.{AllMayEnter}
 use Rattle.ham_journal.specs.Histories.{HasCore}
 
@@ -53,3 +53,8 @@ IsPlaced w = (l n : ℕ) (c : Call) → numbered (w.decided l) n ≡ Some c → 
 abbrev pub HistoriesClosed : Type 0
 HistoriesClosed = (o : Schema) (p : Plan) (me : ℕ) (k : Core) (es : List Entry) → AllMayEnter (setting_of p) me es → HasCore o p me es k
     → IsClosed (setting_of p) k.words
+
+-- And the calls that it is closed by are those that are recorded.
+abbrev pub HistoriesRecorded : Type 0
+HistoriesRecorded = (o : Schema) (p : Plan) (me : ℕ) (k : Core) (es : List Entry) → AllMayEnter (setting_of p) me es → HasCore o p me es k
+    → (closed : IsClosed (setting_of p) k.words) × (recorded k.words ≡ closed.calls)

@@ -1,10 +1,12 @@
 -- What a node keeps, what an input's work leaves and replies, and the core after a journal.
 --     Core                     a replica's words, the frames that wait for each peer, and whether the node was stopped
+--     recorded                 the calls of the log
 --     step                     an input's work on a settled core, in which so many calls are logged
 --     entered                  what an entry leaves and replies
 --     history                  the core after a journal
-use Rattle.std.specs.Prelude.{ℕ, zero, suc, ◌-◌, Bool, true, false, ◌==◌, nat_lt, nat_le, if◌then◌else◌, List, [], ◌∷◌, ◌++◌, fold, take, drop, set, length, get_or, Option, Some, None, option_map, option_and_then, count_by}
+use Rattle.std.specs.Prelude.{ℕ, zero, suc, ◌-◌, Bool, true, false, ◌==◌, nat_lt, nat_le, if◌then◌else◌, List, [], ◌∷◌, ◌++◌, fold, take, drop, set, length, get_or, Option, Some, None, option_map, option_and_then, count_by, filter_map}
 use Rattle.ham_syntax.specs.declared.act.Act.{Act}
+use Rattle.ham_syntax.specs.declared.act.Call.{Call}
 use Rattle.ham_syntax.specs.declared.act.Place.{Place}
 use Rattle.ham_state.specs.Content.{value, rows}
 use Rattle.ham_frame.specs.declared.frame.Frame.{Frame}
@@ -19,7 +21,7 @@ use Rattle.ham_turns.specs.declared.turn.IssueRefusal.{IssueRefusal}
 use Rattle.ham_turns.specs.declared.turn.DeliverRefusal.{DeliverRefusal}
 use Rattle.ham_turns.specs.Settings.{Rules, Setting}
 use Rattle.ham_turns.specs.Words.{ReplicaWords, Intake, ActComes, FrameComes, Beat, numbered, in_lane}
-use Rattle.ham_turns.specs.Work.{answer_of, ruled_of, made_of, place_made, own_work}
+use Rattle.ham_turns.specs.Work.{answer_of, ruled_of, made_of, place_made, own_work, first_of_two}
 use Rattle.ham_turns.specs.Sends.{sent_by}
 use Rattle.ham_turns.specs.Refusals.{issue_refusal, deliver_refusal}
 use Rattle.ham_journal.specs.declared.limits.TheConstants.{MAX_WAITING, MAX_COLLECTED}
@@ -114,6 +116,14 @@ abbrev pub lane_counts : List Place → ℕ → List ℕ
 lane_counts log zero = []
 lane_counts log (suc n) = lane_counts log n ++ count_by (in_lane n) log ∷ []
 
+-- the call of a place: decided here, or brought by a frame
+abbrev pub call_had : ReplicaWords → Place → Option Call
+call_had w p = first_of_two (numbered (w.decided p.lane) p.number) (w.kept p)
+
+-- the calls of the log, in its order
+abbrev pub recorded : ReplicaWords → List Call
+recorded w = filter_map (call_had w) w.log
+
 -- an input's work on a settled core; the look-ups leave the core
 abbrev pub step : Rules → Setting → ℕ → Core → Input → ℕ → Option Answered
 step x y me k (inputs.Issue a) n = issued x y me k a n (issue_refusal x y k.words me a)
@@ -125,6 +135,7 @@ step x y me k (inputs.Rows relation) n = told k (replies.Rows (rows k.words.stat
 step x y me k (inputs.Verdict group number) n = told k (replies.Asked (asked_in k.words group number)) n
 step x y me k inputs.Log n = told k (replies.Log k.words.log) n
 step x y me k inputs.Counts n = told k (replies.Counts (lane_counts k.words.log y.lanes)) n
+step x y me k inputs.Record n = told k (replies.Recorded (recorded k.words)) n
 step x y me k inputs.Stop n = told (record k { stopped = true }) replies.Stopping n
 
 -- ---- entries

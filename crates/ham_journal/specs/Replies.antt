@@ -6,6 +6,7 @@
 use Rattle.std.specs.Prelude.{◌≡◌, ◌≢◌, ℕ, ℤ, ◌⊎◌, List, []}
 use Rattle.std.specs.List.{AllByRecursion}
 use Rattle.ham_syntax.specs.declared.act.Place.{Place}
+use Rattle.ham_syntax.specs.declared.act.Call.{Call}
 use Rattle.ham_frame.specs.declared.frame.Frame.{Frame}
 use Rattle.ham_frame.specs.Spelling.{Fits, AllFit}
 use Rattle.ham_resend.specs.declared.asks.Asked.{Asked}
@@ -47,6 +48,7 @@ IsNothing (replies.Rows rows) = ⊥
 IsNothing (replies.Asked a) = ⊥
 IsNothing (replies.Log log) = ⊥
 IsNothing (replies.Counts counts) = ⊥
+IsNothing (replies.Recorded calls) = ⊥
 IsNothing replies.Stopping = ⊥
 IsNothing replies.Stopped = ⊥
 IsNothing replies.Full = ⊥
@@ -63,6 +65,7 @@ IsAnswer (inputs.Rows relation) reply = (rows : List (List ℕ)) × (reply ≡ r
 IsAnswer (inputs.Verdict group number) reply = (a : Asked) × (reply ≡ replies.Asked a)
 IsAnswer inputs.Log reply = (log : List Place) × (reply ≡ replies.Log log)
 IsAnswer inputs.Counts reply = (counts : List ℕ) × (reply ≡ replies.Counts counts)
+IsAnswer inputs.Record reply = (calls : List Call) × (reply ≡ replies.Recorded calls)
 IsAnswer inputs.Stop reply = reply ≡ replies.Stopping
 
 abbrev pub IsOfKind : Input → Reply → Type 0

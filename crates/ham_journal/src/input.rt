@@ -3,8 +3,11 @@
 use ham_frame::{Frame, Frames};
 use ham_resend::Asked;
 use ham_state::Row;
-use ham_syntax::{Act, Counts, Items, Places};
+use ham_syntax::{Act, Call, Counts, Items, Places};
 use ham_turns::{DeliverRefusal, Delivered, IssueRefusal, Issued};
+
+/// Calls, in order.
+pub type Calls = Items<Call>;
 
 /// What a client, a peer, a feeder or a clock puts into a node.
 #[derive(Debug, Drop)]
@@ -27,6 +30,8 @@ pub enum Input {
     Log,
     /// How many calls of each lane are logged.
     Counts,
+    /// To look at the calls of the log.
+    Record,
     /// To stop for good.
     Stop,
 }
@@ -56,6 +61,8 @@ pub enum Reply {
     Log(Places),
     /// How many calls of each lane are logged.
     Counts(Counts),
+    /// The logged calls, in order.
+    Recorded(Calls),
     /// The node stops by this input.
     Stopping,
     /// It was stopped before.

@@ -8,5 +8,5 @@ pub mod laws;
 pub mod limits;
 
 pub use entry::{Entry, Mark};
-pub use input::{Input, Reply};
+pub use input::{Calls, Input, Reply};
 pub use limits::{MAX_COLLECTED, MAX_ENTRIES, MAX_WAITING};

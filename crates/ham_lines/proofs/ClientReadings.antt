@@ -14,7 +14,7 @@ use Rattle.ham_lines.specs.declared.named.NamedCounter.{NamedCounter}
 use Rattle.ham_lines.specs.declared.client.ClientLine.{ClientLine}
 use Rattle.ham_lines.specs.declared.client.ClientLine.TheVariants as lines
 use Rattle.ham_lines.specs.declared.client.ClientWritten.{ClientWritten}
-use Rattle.ham_lines.specs.declared.client.ClientWritten.TheVariants.{Issue, Show, Rows, Verdict, Log, Counts, Quit, Stop}
+use Rattle.ham_lines.specs.declared.client.ClientWritten.TheVariants.{Issue, Show, Rows, Verdict, Log, Counts, Record, Quit, Stop}
 use Rattle.ham_lines.specs.Named.{act_meant, counter_meant}
 use Rattle.ham_lines.specs.Reading.{two_numbers, act_of, counter_of, relation_of}
 use Rattle.ham_lines.specs.Clients.{client_words, IsClientWritten, IsClientSpelling, client_written, IsOfObject, ClientSpells, NamesUnknown, HasWrongKey, IsClientWrong, ClientSpellsWrong, ClientFails, IsClientReading}
@@ -74,8 +74,9 @@ single_spelt verb (v ∷ ws) w e = absurd (none-some w e)
 single_spelt verb [] w e =
     pick verb (codes "log") [] (Some Log) _ w (bare (codes "log") Log w (record { is_written = tt; words_are = refl }))
     (pick verb (codes "counts") [] (Some Counts) _ w (bare (codes "counts") Counts w (record { is_written = tt; words_are = refl }))
+    (pick verb (codes "record") [] (Some Record) _ w (bare (codes "record") Record w (record { is_written = tt; words_are = refl }))
     (pick verb (codes "quit") [] (Some Quit) _ w (bare (codes "quit") Quit w (record { is_written = tt; words_are = refl }))
-    (pick verb (codes "stop") [] (Some Stop) None w (bare (codes "stop") Stop w (record { is_written = tt; words_are = refl })) (none (verb ∷ []) w)))) e
+    (pick verb (codes "stop") [] (Some Stop) None w (bare (codes "stop") Stop w (record { is_written = tt; words_are = refl })) (none (verb ∷ []) w))))) e
 
 pub client_spelt : (words : List (List ℕ)) (w : ClientWritten) → client_of words ≡ Some w → Spelt words w
 unfolding client_of
@@ -96,6 +97,7 @@ client_read (Rows relation) h = ap (option_map Rows) (relation_read relation h)
 client_read (Verdict g k) h = ap (option_map (λ p. Verdict p.0 p.1)) (two_read g k h)
 client_read Log h = refl
 client_read Counts h = refl
+client_read Record h = refl
 client_read Quit h = refl
 client_read Stop h = refl
 
@@ -128,6 +130,7 @@ client_means o (Rows relation) = rows_means o relation (relation_named o relatio
 client_means o (Verdict g k) = (tt, refl)
 client_means o Log = (tt, refl)
 client_means o Counts = (tt, refl)
+client_means o Record = (tt, refl)
 client_means o Quit = (tt, refl)
 client_means o Stop = (tt, refl)
 
@@ -166,6 +169,7 @@ client_back o checked (lines.Rows relation) h = ap rows_by (relation_back o chec
 client_back o checked (lines.Verdict g k) h = refl
 client_back o checked lines.Log h = refl
 client_back o checked lines.Counts h = refl
+client_back o checked lines.Record h = refl
 client_back o checked lines.Quit h = refl
 client_back o checked lines.Stop h = refl
 
@@ -187,6 +191,7 @@ unknown_told o (Rows relation) h = ap rows_by h
 unknown_told o (Verdict g k) h = absurd h
 unknown_told o Log h = absurd h
 unknown_told o Counts h = absurd h
+unknown_told o Record h = absurd h
 unknown_told o Quit h = absurd h
 unknown_told o Stop h = absurd h
 
@@ -198,6 +203,7 @@ wrong_key_told o (Rows relation) h = absurd h
 wrong_key_told o (Verdict g k) h = absurd h
 wrong_key_told o Log h = absurd h
 wrong_key_told o Counts h = absurd h
+wrong_key_told o Record h = absurd h
 wrong_key_told o Quit h = absurd h
 wrong_key_told o Stop h = absurd h
 

@@ -11,7 +11,7 @@ use Rattle.ham_lines.specs.declared.named.NamedCounter.{NamedCounter}
 use Rattle.ham_lines.specs.declared.client.ClientLine.{ClientLine}
 use Rattle.ham_lines.specs.declared.client.ClientLine.TheVariants as lines
 use Rattle.ham_lines.specs.declared.client.ClientWritten.{ClientWritten}
-use Rattle.ham_lines.specs.declared.client.ClientWritten.TheVariants.{Issue, Show, Rows, Verdict, Log, Counts, Quit, Stop}
+use Rattle.ham_lines.specs.declared.client.ClientWritten.TheVariants.{Issue, Show, Rows, Verdict, Log, Counts, Record, Quit, Stop}
 use Rattle.ham_lines.specs.Named.{act_meant, counter_meant}
 use Rattle.ham_lines.specs.Reading.{two_numbers, act_of, counter_of, relation_of}
 
@@ -25,7 +25,8 @@ verdict_of ws = option_map (λ p. Verdict p.0 p.1) (two_numbers ws)
 
 abbrev pub single_of : List ℕ → List (List ℕ) → Option ClientWritten
 single_of verb (w ∷ ws) = None
-single_of verb [] = if_verb verb (codes "log") (Some Log) (if_verb verb (codes "counts") (Some Counts) (if_verb verb (codes "quit") (Some Quit) (if_verb verb (codes "stop") (Some Stop) None)))
+single_of verb [] = if_verb verb (codes "log") (Some Log) (if_verb verb (codes "counts") (Some Counts)
+    (if_verb verb (codes "record") (Some Record) (if_verb verb (codes "quit") (Some Quit) (if_verb verb (codes "stop") (Some Stop) None))))
 
 unfoldable pub client_of : List (List ℕ) → Option ClientWritten
 client_of [] = None
@@ -63,5 +64,6 @@ client_meant o (Rows relation) = rows_meant o relation
 client_meant o (Verdict g k) = Ok (lines.Verdict g k)
 client_meant o Log = Ok lines.Log
 client_meant o Counts = Ok lines.Counts
+client_meant o Record = Ok lines.Record
 client_meant o Quit = Ok lines.Quit
 client_meant o Stop = Ok lines.Stop

@@ -14,7 +14,7 @@ use Rattle.ham_lines.specs.declared.fault.LineFault.TheVariants.{NotALine, Unkno
 use Rattle.ham_lines.specs.declared.client.ClientLine.{ClientLine}
 use Rattle.ham_lines.specs.declared.client.ClientLine.TheVariants as lines
 use Rattle.ham_lines.specs.declared.client.ClientWritten.{ClientWritten}
-use Rattle.ham_lines.specs.declared.client.ClientWritten.TheVariants.{Issue, Show, Rows, Verdict, Log, Counts, Quit, Stop}
+use Rattle.ham_lines.specs.declared.client.ClientWritten.TheVariants.{Issue, Show, Rows, Verdict, Log, Counts, Record, Quit, Stop}
 use Rattle.ham_lines.specs.Named.{act_words, counter_words, IsNamedAct, IsNamedCounter, relation_name, is_keyed, act_named, counter_shown, IsKeyOf, IsWrongKey}
 
 -- ---- how lines are written
@@ -26,6 +26,7 @@ client_words (Rows relation) = codes "rows" ∷ relation ∷ []
 client_words (Verdict g k) = codes "verdict" ∷ decimal g ∷ decimal k ∷ []
 client_words Log = codes "log" ∷ []
 client_words Counts = codes "counts" ∷ []
+client_words Record = codes "record" ∷ []
 client_words Quit = codes "quit" ∷ []
 client_words Stop = codes "stop" ∷ []
 
@@ -37,6 +38,7 @@ IsClientWritten (Rows relation) = IsTrue (is_name relation)
 IsClientWritten (Verdict g k) = AreNumbers (g ∷ k ∷ [])
 IsClientWritten Log = Unit {0}
 IsClientWritten Counts = Unit {0}
+IsClientWritten Record = Unit {0}
 IsClientWritten Quit = Unit {0}
 IsClientWritten Stop = Unit {0}
 
@@ -53,6 +55,7 @@ client_written o (lines.Rows relation) = Rows (relation_name o relation)
 client_written o (lines.Verdict g k) = Verdict g k
 client_written o lines.Log = Log
 client_written o lines.Counts = Counts
+client_written o lines.Record = Record
 client_written o lines.Quit = Quit
 client_written o lines.Stop = Stop
 

@@ -26,6 +26,8 @@ pub enum ClientLine {
     Log,
     /// How many calls of each lane are logged.
     Counts,
+    /// The calls of the log.
+    Record,
     /// To end the link.
     Quit,
     /// To stop the replica.
@@ -41,6 +43,7 @@ pub enum ClientWritten {
     Verdict { group: u64, number: u64 },
     Log,
     Counts,
+    Record,
     Quit,
     Stop,
 }
@@ -74,6 +77,8 @@ fn read_written(line: &[u8]) -> Option<ClientWritten>
         Some(ClientWritten::Log)
     } else if verb == b"counts".as_slice() {
         Some(ClientWritten::Counts)
+    } else if verb == b"record".as_slice() {
+        Some(ClientWritten::Record)
     } else if verb == b"quit".as_slice() {
         Some(ClientWritten::Quit)
     } else if verb == b"stop".as_slice() {
@@ -102,6 +107,7 @@ impl ClientWritten {
             ClientWritten::Verdict { group, number } => Ok(ClientLine::Verdict { group, number }),
             ClientWritten::Log => Ok(ClientLine::Log),
             ClientWritten::Counts => Ok(ClientLine::Counts),
+            ClientWritten::Record => Ok(ClientLine::Record),
             ClientWritten::Quit => Ok(ClientLine::Quit),
             ClientWritten::Stop => Ok(ClientLine::Stop),
         }

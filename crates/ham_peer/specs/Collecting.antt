@@ -42,6 +42,7 @@ given_by (replies.Rows rows) = []
 given_by (replies.Asked a) = []
 given_by (replies.Log log) = []
 given_by (replies.Counts counts) = []
+given_by (replies.Recorded calls) = []
 given_by replies.Stopping = []
 
 -- no other reply than the first four is of a Collect's kind
@@ -60,6 +61,7 @@ way_by (replies.Rows rows) = Ends ends.NoMemory
 way_by (replies.Asked a) = Ends ends.NoMemory
 way_by (replies.Log log) = Ends ends.NoMemory
 way_by (replies.Counts counts) = Ends ends.NoMemory
+way_by (replies.Recorded calls) = Ends ends.NoMemory
 way_by replies.Stopping = Ends ends.NoMemory
 
 -- a Collect of the peer's box was entered, and replied so

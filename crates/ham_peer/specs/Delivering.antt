@@ -70,6 +70,7 @@ way_after bye (replies.Rows rows) = if bye then Ends ends.Bye else Goes
 way_after bye (replies.Asked a) = if bye then Ends ends.Bye else Goes
 way_after bye (replies.Log log) = if bye then Ends ends.Bye else Goes
 way_after bye (replies.Counts counts) = if bye then Ends ends.Bye else Goes
+way_after bye (replies.Recorded calls) = if bye then Ends ends.Bye else Goes
 way_after bye replies.Stopping = if bye then Ends ends.Bye else Goes
 
 -- one frame: the first is the Hello or ends it, each later one enters the door

@@ -1,3 +1,4 @@
 pub mod Ends
+pub mod Recording
 pub mod Talks
 pub mod Telling

@@ -46,6 +46,7 @@ line_enters l i y me e = subst (λ (o : Option Input). Fine o) e (fine l)
     fine (lines.Verdict g n) = not_delivery (verdict_by g n) (verdict_not (nat_lt g MAX_GROUPS && nat_le n MAX_REQUESTS) g n) y me
     fine lines.Log = not_delivery inputs.Log (λ from f q. cc) y me
     fine lines.Counts = not_delivery inputs.Counts (λ from f q. cc) y me
+    fine lines.Record = not_delivery inputs.Record (λ from f q. cc) y me
     fine lines.Quit = tt
     fine lines.Stop = not_delivery inputs.Stop (λ from f q. cc) y me
 
@@ -53,23 +54,23 @@ pub may_enter : (l : ClientLine) (i : Input) (y : Setting) (me : ℕ) → Some i
 may_enter l i y me e = line_enters l i y me (sym e)
 
 pub fault_told : (o object : Schema) (p : Plan) (m : ℕ) (h : Option (List Entry)) (line : List ℕ) (fault : LineFault) → o ≡ object → IsClientReading object line (Err fault)
-    → Tells_to o p m h line h (said_text (said.Fault fault)) went.On
-fault_told o object p m h line fault e r = record { reading = Err fault; read = subst (λ (s : Schema). IsClientReading s line (Err fault)) (sym e) r; says = said.Fault fault; tells = (refl, refl, refl); text_is = refl }
+    → Tells_to o p m h line h (said_text object (said.Fault fault)) went.On
+fault_told o object p m h line fault e r = record { reading = Err fault; read = subst (λ (s : Schema). IsClientReading s line (Err fault)) (sym e) r; says = said.Fault fault; tells = (refl, refl, refl); text_is = ap (λ (z : Schema). said_text z (said.Fault fault)) (sym e) }
 
 input_told : (o object : Schema) (p : Plan) (m : ℕ) (h h' : Option (List Entry)) (line : List ℕ) (l : ClientLine) (i : Option Input) (s : Said) (w : Went) → o ≡ object → IsClientReading object line (Ok l) → i ≡ input_by l
-    → TellsInput o p m h i h' s w → Tells_to o p m h line h' (said_text s) w
+    → TellsInput o p m h i h' s w → Tells_to o p m h line h' (said_text object s) w
 input_told o object p m h h' line l i s w e r q t = record {
   reading = Ok l;
   read = subst (λ (z : Schema). IsClientReading z line (Ok l)) (sym e) r;
   says = s;
   tells = subst (λ (z : Option Input). TellsInput o p m h z h' s w) q t;
-  text_is = refl;
+  text_is = ap (λ (z : Schema). said_text z s) (sym e);
 }
 
 pub bye_told : (o object : Schema) (p : Plan) (m : ℕ) (h : Option (List Entry)) (line : List ℕ) (l : ClientLine) → o ≡ object → IsClientReading object line (Ok l) → None ≡ input_by l
-    → Tells_to o p m h line h (said_text said.Bye) went.Quit
+    → Tells_to o p m h line h (said_text object said.Bye) went.Quit
 bye_told o object p m h line l e r q = input_told o object p m h h line l None said.Bye went.Quit e r q (refl, refl, refl)
 
 pub reply_told : (o object : Schema) (p : Plan) (m : ℕ) (h h' : Option (List Entry)) (line : List ℕ) (l : ClientLine) (i : Input) (r : Reply) → o ≡ object → IsClientReading object line (Ok l) → Some i ≡ input_by l
-    → EntersBy o p m h h' i r → Tells_to o p m h line h' (said_text (said.Reply r)) (way_of r)
+    → EntersBy o p m h h' i r → Tells_to o p m h line h' (said_text object (said.Reply r)) (way_of r)
 reply_told o object p m h h' line l i r e read q t = input_told o object p m h h' line l (Some i) (said.Reply r) (way_of r) e read q (r, t, refl, refl)

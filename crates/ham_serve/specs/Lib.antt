@@ -1,4 +1,5 @@
 pub mod Lines
+pub mod Recorded
 pub mod Texts
 pub mod Talks
 pub mod Rounds

@@ -34,7 +34,7 @@ pub record Tells_to (o : Schema) (p : Plan) (m : ℕ) (h : Option (List Entry)) 
   pub read : IsClientReading o line reading
   pub says : Said
   pub tells : TellsRead o p m h reading h' says w
-  pub text_is : text ≡ said_text says
+  pub text_is : text ≡ said_text o says
 
 pub data Talk (o : Schema) (p : Plan) (m : ℕ) (h : Option (List Entry)) : List (List ℕ) → Option (List Entry) → List ℕ → Went → Type 0 where
   Silent : Talk o p m h [] h [] went.On

@@ -1,7 +1,9 @@
 //! What a node tells its clients: lines in, lines out, by any door and any link.
 #![tactic(auto)]
 
+pub mod laws;
 mod line;
+mod recorded;
 mod reply;
 mod serve;
 

@@ -4,10 +4,12 @@ ghost use Rattle.std.specs.Prelude.{◌≡◌, ◌++◌, OnOk};
 ghost use Rattle.std.specs.List.{flat_map};
 ghost use Rattle.ham_serve.specs.Texts.{input_by, verdict_by, reply_text, refusal_text, counts_text, count_text, said_text, fault_text};
 
+use crate::recorded::push_recorded;
 use crate::serve::Said;
 use ham_core::{Input, Reply};
 use ham_lines::{Answer, ClientLine, LineFault, push_answer, push_issued, push_log, push_rows};
 use ham_lists::{Bytes, NoMemory};
+use ham_syntax::Object;
 use ham_syntax::limits::{MAX_GROUPS, MAX_REQUESTS};
 use ham_text::{push_line_end, push_number, push_signed};
 use ham_turns::IssueRefusal;
@@ -24,6 +26,7 @@ pub(crate) fn input_of(line: &ClientLine) -> Option<Input>
         ClientLine::Verdict { group, number } => Some(verdict(group, number)),
         ClientLine::Log => Some(Input::Log),
         ClientLine::Counts => Some(Input::Counts),
+        ClientLine::Record => Some(Input::Record),
         ClientLine::Quit => None,
         ClientLine::Stop => Some(Input::Stop),
     }
@@ -46,13 +49,13 @@ fn verdict(group: u64, number: u64) -> Input
 }
 
 /// Puts what is said to a client last, with its line's end.
-pub(crate) fn push_said(text: &mut Bytes, said: Said) -> Result<(), NoMemory>
-    ensures { OnOk result (text.new ≡ text.old ++ said_text said) }
+pub(crate) fn push_said(text: &mut Bytes, object: &Object, said: Said) -> Result<(), NoMemory>
+    ensures { OnOk result (text.new ≡ text.old ++ said_text object.now said) }
 {
     match said {
         Said::Fault(fault) => push_fault(text, fault)?,
         Said::Bye => text.extend(b"bye")?,
-        Said::Reply(reply) => push_reply(text, &reply)?,
+        Said::Reply(reply) => push_reply(text, object, &reply)?,
     }
     push_line_end(text)
 }
@@ -68,8 +71,8 @@ fn push_fault(text: &mut Bytes, fault: LineFault) -> Result<(), NoMemory>
     }
 }
 
-fn push_reply(text: &mut Bytes, reply: &Reply) -> Result<(), NoMemory>
-    ensures { OnOk result (text.new ≡ text.old ++ reply_text reply.now) }
+fn push_reply(text: &mut Bytes, object: &Object, reply: &Reply) -> Result<(), NoMemory>
+    ensures { OnOk result (text.new ≡ text.old ++ reply_text object.now reply.now) }
 {
     match reply {
         Reply::Issued { answer, logged } => push_issued(text, *answer, logged.items()),
@@ -82,6 +85,7 @@ fn push_reply(text: &mut Bytes, reply: &Reply) -> Result<(), NoMemory>
         Reply::Asked(asked) => push_answer(text, &Answer::Asked(*asked)),
         Reply::Log(places) => push_log(text, places.items()),
         Reply::Counts(counts) => push_counts(text, counts.items()),
+        Reply::Recorded(calls) => push_recorded(text, object, calls.items()),
         Reply::Stopping => text.extend(b"stopping"),
         Reply::Stopped => text.extend(b"stopped"),
         Reply::Full => text.extend(b"full"),

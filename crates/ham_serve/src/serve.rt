@@ -73,6 +73,7 @@ fn way(reply: &Reply) -> Went
         Reply::Asked(_) => Went::On,
         Reply::Log(_) => Went::On,
         Reply::Counts(_) => Went::On,
+        Reply::Recorded(_) => Went::On,
         Reply::Full => Went::On,
         Reply::NoMemory => Went::On,
     }
@@ -81,7 +82,7 @@ fn way(reply: &Reply) -> Went
 /// Reads a line, and enters what it asks: what is said of it.
 fn told<D: Door>(object: &Object, door: &mut D, line: &[u8]) -> (Said, Went)
     requires home { D.object door.old ≡ object.now }
-    ensures talk { Tells_to (D.object door.old) (D.plan door.old) (D.me door.old) (D.history door.old) line.now (D.history door.new) (said_text result.0) result.1 }
+    ensures talk { Tells_to (D.object door.old) (D.plan door.old) (D.me door.old) (D.history door.old) line.now (D.history door.new) (said_text object.now result.0) result.1 }
     ensures stopped { result.1 ≡ went.Stopped → Rose (D.stops door.old) (D.stops door.new) }
     ensures later { D.stops door.old ≤ D.stops door.new }
     ensures object { D.object door.new ≡ D.object door.old }
@@ -122,7 +123,7 @@ fn serve_lines<'a, D: Door>(
     let mut rest = held;
     while let Some((line, after)) = first_line(rest) {
         let (said, went) = told(object, door, line);
-        push_said(out, said)?;
+        push_said(out, object, said)?;
         rest = after;
         if went != Went::On {
             return Ok((rest, went));

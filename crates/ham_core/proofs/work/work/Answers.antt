@@ -1,7 +1,7 @@
 use Rattle.std.proofs.Common.{◌∙◌, ap, refl, arith}
 use Rattle.std.proofs.lemmas.Int.{to_z-of_z}
 use Rattle.ham_steps.specs.Content.{State, value, rows}
-use Rattle.ham_core.proofs.Doing.{show_does, rows_does, verdict_does, log_does, counts_do, stop_does}
+use Rattle.ham_core.proofs.Doing.{show_does, rows_does, verdict_does, log_does, counts_do, record_does, stop_does}
 use Rattle.ham_core.proofs.work.work.Goals as goal
 
 pub delivered-requires-clause-peer : goal.delivered-requires-clause-peer
@@ -30,6 +30,10 @@ pub returns-in-Ok-of-2 : goal.returns-in-Ok-of-2
 returns-in-Ok-of-2 c =
     rw c.in-Ok-of-2.ensures
     (counts_do c.args.replica.now c.args.boxes.now c.args.stopped.now c.args.input.now c.counts.result.now c.requires.settled c.requires.sound c.requires.going c.in-Counts.is c.counts.ensures.many c.counts.ensures.each)
+
+pub returns-in-Ok-logged_calls : goal.returns-in-Ok-logged_calls
+returns-in-Ok-logged_calls c =
+    record_does c.args.replica.now c.args.boxes.now c.args.stopped.now c.args.input.now c.in-Ok-logged_calls.calls c.requires.settled c.requires.sound c.requires.going c.in-Record.is c.in-Ok-logged_calls.ensures
 
 pub returns-in-Stop : goal.returns-in-Stop
 returns-in-Stop c =

@@ -16,14 +16,14 @@ pub returns-in_err-push_said-clause-untold : goal.returns-in_err-push_said-claus
 returns-in_err-push_said-clause-untold g c =
     let i = c.loop-line.invariant in
     let p = err_from_is_err_and c.from_residual.result c.from_residual.ensures.1 in
-    let s = serving_more _ _ _ _ _ _ _ _ _ _ _ _ _ c.args.out.now _ (c.loop-line.out ++ said_text c.told-said.result.0) (said_text c.told-said.result.0) _ c.told-said.result.1 i.served refl c.in-Some.ensures.line i.object i.plan i.me
+    let s = serving_more _ _ _ _ _ _ _ _ _ _ _ _ _ c.args.out.now _ (c.loop-line.out ++ said_text c.args.object.now c.told-said.result.0) (said_text c.args.object.now c.told-said.result.0) _ c.told-said.result.1 i.served refl c.in-Some.ensures.line i.object i.plan i.me
     c.in-Some.ensures.some refl c.told-said.ensures.talk in
     rw p.1 (c.in-Some.after.now, s.text, c.told-said.result.1, from_empty _ _ _ _ _ _ _ _ _ _ s)
 
 pub returns-then-ne-clause-talk : goal.returns-then-ne-clause-talk
 returns-then-ne-clause-talk g c =
     let i = c.loop-line.invariant in
-    serving_more _ _ _ _ _ _ _ _ _ _ _ _ _ _ _ _ (said_text c.told-said.result.0) _ c.told-said.result.1 i.served refl c.in-Some.ensures.line i.object i.plan i.me
+    serving_more _ _ _ _ _ _ _ _ _ _ _ _ _ _ _ _ (said_text c.args.object.now c.told-said.result.0) _ c.told-said.result.1 i.served refl c.in-Some.ensures.line i.object i.plan i.me
     c.in-Some.ensures.some c.in_ok-push_said.ensures c.told-said.ensures.talk
 
 pub loop-line-preserved : goal.loop-line-preserved
@@ -31,7 +31,7 @@ loop-line-preserved g c =
     let i = c.loop-line.invariant in
     let on : c.told-said.result.1 ≡ went.On = same_true the_type (search rules) _ _ (not_false _ (sym c.ne.ensures ∙ c.if-ne.false)) in
     record {
-      served = served_on _ _ _ _ _ _ _ _ _ _ (serving_more _ _ _ _ _ _ _ _ _ _ _ _ _ _ _ _ (said_text c.told-said.result.0) _ c.told-said.result.1 i.served refl c.in-Some.ensures.line i.object i.plan i.me
+      served = served_on _ _ _ _ _ _ _ _ _ _ (serving_more _ _ _ _ _ _ _ _ _ _ _ _ _ _ _ _ (said_text c.args.object.now c.told-said.result.0) _ c.told-said.result.1 i.served refl c.in-Some.ensures.line i.object i.plan i.me
           c.in-Some.ensures.some c.in_ok-push_said.ensures c.told-said.ensures.talk) on;
       later = omega (arith, i.later, c.told-said.ensures.later);
       object = c.told-said.ensures.object ∙ i.object;
