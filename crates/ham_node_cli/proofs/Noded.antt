@@ -1,9 +1,12 @@
 -- A node whose object is there is stopped, unless something outside fails.
-use Rattle.std.proofs.Common.{◌≡◌, ℕ, List, Option, Some, None, ◌⊎◌, inl, inr, refl, sym, subst}
-use Rattle.std.specs.Prelude.{IfSome}
+use Rattle.std.proofs.Common.{◌≡◌, ℕ, List, [], ◌∷◌, ◌++◌, ◌≤◌, Option, Some, None, ◌⊎◌, inl, inr, refl, sym, ap, subst}
+use Rattle.std.specs.Prelude.{IfSome, Ok, Err}
 use Rattle.ham_syntax.specs.Objects.{Schema}
 use Rattle.ham_bytes.specs.Causes.{Rose}
+use Rattle.ham_bytes.specs.Outside.{FetchesFrom, Seeks}
 use Rattle.ham_bytes.specs.declared.shelf.File.{File}
+use Rattle.ham_bytes.specs.declared.shelf.FetchFault.{FetchFault}
+use Rattle.ham_bytes.specs.declared.shelf.FetchFault.TheVariants as fetches
 use Rattle.ham_objfile.specs.Texts.{IsAnsweredOnce}
 use Rattle.ham_workers.specs.declared.run.ReplicaEnd.{ReplicaEnd}
 use Rattle.ham_workers.specs.declared.run.ReplicaEnd.TheVariants as replica_ends
@@ -12,10 +15,13 @@ use Rattle.ham_cli.specs.declared.exit.Exit.TheVariants as exits
 use Rattle.ham_node_cli.specs.declared.node.NodeEnd.{NodeEnd}
 use Rattle.ham_node_cli.specs.declared.node.NodeEnd.TheVariants as ends
 use Rattle.ham_syntax.specs.declared.limits.TheConstants.{MAX_OBJECT_BYTES}
-use Rattle.ham_cli.specs.Exits.{IsCounted}
+use Rattle.ham_cli.specs.Exits.{IsCounted, exit_of_fetch}
 use Rattle.ham_cli.specs.Files.{HasFile, Stops}
-use Rattle.ham_node_cli.specs.NodeWords.{AskedNode}
+use Rattle.ham_plan.specs.Plans.{Plan}
+use Rattle.ham_turns.specs.Settings.{setting_of, IsReplica}
+use Rattle.ham_node_cli.specs.NodeWords.{AskedNode, IsOneOf}
 use Rattle.ham_node_cli.specs.NodeEnds.{end_by, EndsReadNode, EndsNode, SeeksNode, IsNodeCounted, CompletesNode}
+use Rattle.ham_cli.proofs.Ending.{has_file, stops}
 use Rattle.ham_cli.proofs.Completing.{one_file, not_too_long, unread_memory}
 
 -- a file that is there and within its limit stops nothing but for want of memory
@@ -64,3 +70,29 @@ pub completes_held : IsAnsweredOnce → (a : AskedNode) (held : Option (List Fil
     → IsNodeCounted s s' b b' k k' end → IfSome held (λ files. EndsNode a files before now end) → IfSome held (λ files. CompletesNode a files (Rose s s') (Rose b b') (Rose k k') end)
 completes_held one a None before now s s' b b' k k' end counted h = tt
 completes_held one a (Some files) before now s s' b b' k k' end counted h = node_completes one a files before now s s' b b' k k' end counted h
+
+-- ---- the object's file
+
+pub fetched : (held : Option (List File)) (a : AskedNode) (bytes text : List ℕ) (before now : Option (List ℕ)) (end : NodeEnd) → FetchesFrom held a.object MAX_OBJECT_BYTES (Ok bytes) → text ≡ bytes → EndsReadNode text a before now end
+    → IfSome held (λ files. EndsNode a files before now end)
+fetched None a bytes text before now end found same ends = tt
+fetched (Some files) a bytes text before now end found same ends = inr (bytes, has_file files a.object bytes MAX_OBJECT_BYTES found, subst (λ (x : List ℕ). EndsReadNode x a before now end) same ends)
+
+pub unfetched : (held : Option (List File)) (a : AskedNode) (t : Option (List ℕ)) (fault : FetchFault) (exit : Exit) → FetchesFrom held a.object MAX_OBJECT_BYTES (Err fault) → exit ≡ exit_of_fetch fault → IfSome held (λ files. EndsNode a files t t (ends.Ended exit))
+unfetched None a t fault exit found at = tt
+unfetched (Some files) a t fault exit found at = inl (exit, refl, stops files a.object MAX_OBJECT_BYTES t fault exit found at)
+
+pub unsought : (a : AskedNode) (before now : List (List ℕ)) (fault : FetchFault) (exit : Exit) → Seeks before now a.object (Err fault) → exit ≡ exit_of_fetch fault → SeeksNode a before now (ends.Ended exit)
+unsought a before now fetches.Failed exit s at = inr s
+unsought a before now (fetches.TooLong l) exit s at = inr s
+unsought a before now fetches.NoMemory exit s at = elim s [
+  | inl noted ↦ inr noted
+  | inr same ↦ inl (ap ends.Ended at, same)
+]
+
+-- ---- the replica
+
+-- one of the plan's replicas
+pub one_of : (p : Plan) (me n : ℕ) → p.replicas ≡ n → IsOneOf me n → IsReplica (setting_of p) me
+unfolding setting_of
+one_of p me n e h = (h.some, subst (λ (x : ℕ). me ≤ x) (sym e) h.within)
