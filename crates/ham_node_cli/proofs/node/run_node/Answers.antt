@@ -17,7 +17,7 @@ pub returns-in-Some-clause-complete : goal.returns-in-Some-clause-complete
 returns-in-Some-clause-complete g c =
     for_held c.args.words.now _ (seen c.in-Some.node)
     (λ a files. CompletesNode a files (Rose (g.H.Shelf.faults c.args.shelf.now) (g.H.Shelf.faults c.run_asked.new.shelf)) (Rose (g.B.Switchboard.faults c.args.board.now) (g.B.Switchboard.faults c.run_asked.new.board))
-      (Rose (g.K.Sink.faults c.args.out.now) (g.K.Sink.faults c.run_asked.new.out)) c.run_asked.result)
+    (Rose (g.K.Sink.faults c.args.out.now) (g.K.Sink.faults c.run_asked.new.out)) c.run_asked.result)
     (subst (λ (w : List (List ℕ)). AsksNode w (seen c.in-Some.node)) c.items.ensures c.in-Some.ensures.asks)
     (completes_held c.answered_once.ensures (seen c.in-Some.node) _ _ _ _ _ _ _ _ _ c.run_asked.result c.run_asked.ensures.counted c.run_asked.ensures.ends)
 
