@@ -151,6 +151,20 @@ class Client:
         self.send("".join(f"{line}\n" for line in lines))
         return [self.line() for _ in lines]
 
+    def flood(self, line, count, batch=2_000):
+        """Sends a line so many times, and takes as many answers: the last of each batch."""
+        last = []
+        while count > 0:
+            size = min(batch, count)
+            self.send(f"{line}\n" * size)
+            got = b""
+            while size > 0:
+                got = self.socket.recv(65_536)
+                size -= got.count(b"\n")
+            last.append((b"\n" + got).split(b"\n")[-2].decode())
+            count -= batch
+        return last
+
     def rows(self, relation):
         count = int(self.ask(f"rows {relation}").split()[1])
         return [self.line() for _ in range(count)]
