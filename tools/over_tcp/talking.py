@@ -1,4 +1,4 @@
-"""What tools/try_nodes and tools/load_nodes share: nodes on this machine, their clients, and links of peers."""
+"""Nodes on this machine, their clients, and links of peers."""
 import os
 import socket
 import struct
@@ -6,7 +6,7 @@ import subprocess
 import threading
 import time
 
-TOP = os.path.dirname(os.path.dirname(os.path.realpath(__file__)))
+TOP = os.path.dirname(os.path.dirname(os.path.dirname(os.path.realpath(__file__))))
 PROGRAM = os.path.join(TOP, "crates", "hamsaz", "out", "hamsaz")
 PORTS = 13        # a replica's ports are its base and the twelve after it
 TRIES = 300
