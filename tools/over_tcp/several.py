@@ -28,6 +28,27 @@ def three_nodes(program, _place):
         node.stop()
 
 
+def eight_nodes(program, _place):
+    """As many as there may be; one leads the withdrawals of all."""
+    bases = free_bases(8)
+    nodes = [Node(program, me, bases, BANK) for me in range(1, 9)]
+    clients = [node.client() for node in nodes]
+    for me, client in enumerate(clients, 1):
+        is_so("issue", client.all(["issue deposit 2", "issue deposit 3"]), [f"applied +{me}:1", f"applied +{me}:2"])
+    for client in clients:
+        client.until("show balance", "value 40")
+    for client in clients[1:]:
+        is_so("request", client.ask("issue withdraw 5"), "forwarded 0:1")
+    for client in clients:
+        client.until("counts", "counts 7 2 2 2 2 2 2 2 2")
+        is_so("the value", client.ask("show balance"), "value 5")
+    for client in clients[1:]:
+        until("the verdict", lambda client=client: client.ask("verdict 0 1").split()[0], "applied")
+    is_so("each has its own number", sorted(client.ask("verdict 0 1") for client in clients[1:]), [f"applied {k}" for k in range(1, 8)])
+    for node in nodes:
+        node.stop()
+
+
 class Story:
     """What was issued at which node, so that each log can be played again."""
 
