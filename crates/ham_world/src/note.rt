@@ -11,8 +11,7 @@ pub enum Took {
     Tick,
 }
 
-/// A turn of a replica, or a frame that was torn: what it took in and was answered, the calls that it logged, in order,
-/// and how many frames it sent.
+/// A turn of a replica, or a torn frame: what came in, its answer, the calls logged, in order, and how many frames it sent.
 #[derive(Debug, Drop)]
 pub struct Note {
     pub replica: u8,

@@ -66,8 +66,7 @@ impl World {
         })
     }
 
-    /// The next event, and how many turns it made. A refused one leaves the world; once memory ran out, each answer is
-    /// want of memory.
+    /// The next event, and how many turns it made. A refused one leaves the world; once memory ran out, each answer says so.
     pub fn step(&mut self, alloc: Global, event: &Event) -> Result<usize, StepRefusal>
         ensures steps { worlds.Steps self.old self.new event.now result }
         ensures stopped { self.old.stopped ≡ true → result ≡ Err refusals.NoMemory }
