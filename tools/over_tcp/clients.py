@@ -61,7 +61,10 @@ def each_line(program, place):
         is_so(f"reply to {line!r}", client.ask(line), reply)
         entries += enters
     is_so("rows", (client.rows("enrolled"), client.rows("student")), (["1 1", "1 2"], ["1", "18446744073709551615"]))
-    is_so("the entries", node.stop(), entries + 3)
+    is_so("record", client.record(), ["call 2 1 deposit 5", "call 2 2 deposit 6", "call 0 1 withdraw 11", "call 3 1 fill 7 3", "call 1 1 take 7 3",
+                                      "call 4 1 addStudent 1", "call 5 1 enroll 1 2", "call 5 2 enroll 1 1", "call 4 2 addStudent 18446744073709551615"])
+    is_so("record with a word more", client.ask("record 1"), "refused: not a line")
+    is_so("the entries", node.stop(), entries + 4)
 
 
 def verdicts(program, place):

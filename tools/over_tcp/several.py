@@ -94,10 +94,12 @@ class Story:
         return balance, stock, students, enrolled
 
     def audit(self, program, place, logs):
-        """The program's auditor takes the logs."""
+        """Each node records the calls of its log with their acts, and the program's auditor takes what they record."""
         lines = ["hamsaz audit 1", f"replicas {len(logs)}"]
-        for me, log in enumerate(logs, 1):
-            lines += [f"replica {me}", *(" ".join(["call", *at.split(":"), *map(str, self.acts[at])]) for at in log)]
+        for me, (client, log) in enumerate(zip(self.clients, logs), 1):
+            record = client.record()
+            is_so("a record", record, [" ".join(["call", *at.split(":"), *map(str, self.acts[at])]) for at in log])
+            lines += [f"replica {me}", *record]
         records = os.path.join(place.folder, "records")
         with open(records, "w", encoding="ascii") as file:
             file.write("\n".join([*lines, "end"]) + "\n")

@@ -169,6 +169,12 @@ class Client:
         count = int(self.ask(f"rows {relation}").split()[1])
         return [self.line() for _ in range(count)]
 
+    def record(self):
+        """The lines of the calls of the log."""
+        word, count = self.ask("record").split()
+        is_so("the first word of a record", word, "record")
+        return [self.line() for _ in range(int(count))]
+
     def until(self, line, wanted):
         until(line, lambda: self.ask(line), wanted)
 
