@@ -34,7 +34,7 @@ fn clocks_of(rt: HostRuntime) -> Result<Vec<SleepClock<HostRuntime>>, AllocError
     ensures { IfOk result (λ clocks. vec_len clocks ≡ MAX_SEATS) }
 {
     let mut clocks = Vec::new(rt.alloc());
-    for _ in 0..MAX_SEATS {
+    for _seat in 0..MAX_SEATS {
         clocks.push(SleepClock::new(rt))?;
     }
     Ok(clocks)
