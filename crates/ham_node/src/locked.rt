@@ -8,7 +8,12 @@ ghost use Rattle.ham_core.specs.Doors.{Moves};
 use ham_core::door::{Tally, count};
 use ham_core::{Door, Guarded, Home, Input, Reply, Seat};
 use ham_links::Clock;
-use std::sync::{Condvar, Mutex, Wait};
+use std::hint::spin_loop;
+use std::sync::{Condvar, Mutex, MutexGuard, Wait};
+
+/// How often a worker looks whether the lock is free before it sleeps for it. An entry takes less than a microsecond under
+/// the lock, far less than a thread takes to fall asleep and be woken.
+const LOOKS: u32 = 2_000;
 
 /// The bell of a peer's feeder. It is rung once the lock is let go, where the feeder sleeps and a frame waits, or the node was
 /// stopped. That a feeder wakes is not claimed: a lost ring costs no more than the time to the next tick that sends.
@@ -74,6 +79,17 @@ fn due<L: Home>(guarded: &mut Guarded<L>) -> u16
     due
 }
 
+/// The node behind the lock: it is looked for a while, and then slept for.
+fn take<'b, R: Wait, L: Home>(rt: &R, lock: &'b Mutex<Guarded<L>>) -> MutexGuard<'b, Guarded<L>> {
+    for _ in 0..LOOKS {
+        if let Some(guard) = lock.try_lock() {
+            return guard;
+        }
+        spin_loop();
+    }
+    lock.lock(rt)
+}
+
 /// Enters an input under the lock, and rings once it is let go.
 fn enter_locked<R: Wait, L: Home>(
     rt: &R,
@@ -88,7 +104,7 @@ fn enter_locked<R: Wait, L: Home>(
     ensures moves { Moves result seat.old.share.amount seat.new.share.amount }
     ensures number { seat.new.number ≡ seat.old.number }
 {
-    let mut guard = lock.lock(rt);
+    let mut guard = take(rt, lock);
     let reply = guard.enter(seat, input);
     let due = due(&mut *guard);
     drop(guard);
