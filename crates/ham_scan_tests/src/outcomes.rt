@@ -38,10 +38,10 @@ fn one_act(alloc: Global, object: &Object, state: &mut State, act: &Act) -> Resu
 fn some_act(random: &mut Random) -> Option<Act> {
     let method = random.below(METHODS) as u8;
     let ids = [random.below(IDS), random.below(IDS)];
-    let args = if method == SIT { &ids[..] } else { &ids[..1] };
+    let taken = if method == SIT { 2 } else { 1 };
     Some(Act {
         method,
-        args: Args::new(args)?,
+        args: Args::new(&ids[..taken])?,
     })
 }
 
