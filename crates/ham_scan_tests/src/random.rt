@@ -9,12 +9,12 @@ pub struct Random {
 }
 
 impl Random {
-    pub fn of(seed: u64) -> Random {
+    pub(crate) fn of(seed: u64) -> Random {
         Random { seed }
     }
 
     /// A number below the bound.
-    pub fn below(&mut self, bound: u64) -> u64
+    pub(crate) fn below(&mut self, bound: u64) -> u64
         requires { 0 < bound }
         ensures { result < bound }
     {

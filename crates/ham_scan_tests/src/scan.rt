@@ -6,7 +6,7 @@ use ham_syntax::{Invariant, NoMemory, Object};
 use std::alloc::Global;
 
 /// Ids and keys are below this.
-pub const IDS: u64 = 3;
+pub(crate) const IDS: u64 = 3;
 
 /// The id of the row at a column; columns count from 1.
 fn id(row: &Row, column: u8) -> Option<u64> {
@@ -55,14 +55,12 @@ fn holds(alloc: Global, state: &State, invariant: &Invariant) -> Result<bool, No
     })
 }
 
-/// The first invariant that doesn't hold.
-pub fn scan(alloc: Global, object: &Object, state: &State) -> Result<Outcome, NoMemory> {
-    let mut place = 0u8;
-    for invariant in object.invariants() {
+/// Yes, or the first invariant that doesn't hold.
+pub(crate) fn scan(alloc: Global, object: &Object, state: &State) -> Result<Outcome, NoMemory> {
+    for (place, invariant) in object.invariants().iter().enumerate() {
         if !holds(alloc, state, invariant)? {
-            return Ok(Outcome::Invariant(place));
+            return Ok(Outcome::Invariant(place as u8));
         }
-        place = place.wrapping_add(1);
     }
     Ok(Outcome::Yes)
 }
