@@ -1,5 +1,7 @@
 //! Clocks.
 
+ghost use Rattle.std.specs.Prelude.{◌≡◌};
+
 use std::thread;
 use std::time::Duration;
 
@@ -29,7 +31,10 @@ pub struct SleepClock<K: std::time::Clock + Drop> {
 }
 
 impl<K: std::time::Clock + Drop> SleepClock<K> {
-    pub fn new(clock: K) -> SleepClock<K> {
+    /// A clock that sleeps by this one.
+    pub fn new(clock: K) -> SleepClock<K>
+        ensures { result.clock ≡ clock }
+    {
         SleepClock { clock }
     }
 }

@@ -79,7 +79,7 @@ fn due<L: Home>(guarded: &mut Guarded<L>) -> u16
     due
 }
 
-/// The node behind the lock: it is looked for a while, and then slept for.
+/// The node, locked: whether the lock is free is looked at for a while, and then the thread sleeps until it is.
 fn take<'b, R: Wait, L: Home>(rt: &R, lock: &'b Mutex<Guarded<L>>) -> MutexGuard<'b, Guarded<L>> {
     for _ in 0..LOOKS {
         if let Some(guard) = lock.try_lock() {
@@ -205,12 +205,15 @@ pub struct Waiter<'a, R: Wait, L: Home> {
 }
 
 impl<'a, R: Wait, L: Home> Waiter<'a, R, L> {
+    /// A clock of the feeder of this peer.
     pub fn new(
         rt: &'a R,
         lock: &'a Mutex<Guarded<L>>,
         bells: &'a Bells,
         peer: u8,
-    ) -> Waiter<'a, R, L> {
+    ) -> Waiter<'a, R, L>
+        ensures { result.peer ≡ peer }
+    {
         Waiter {
             rt,
             lock,

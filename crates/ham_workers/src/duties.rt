@@ -27,7 +27,7 @@ pub enum Duty<L: Home> {
 
 impl<L: Home> Duty<L> {
     /// The peer; 0 for a client.
-    pub fn peer(&self) -> u8 {
+    pub(crate) fn peer(&self) -> u8 {
         match self {
             Duty::Serve => 0,
             Duty::Read(peer) => peer.number,
