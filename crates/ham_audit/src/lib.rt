@@ -1,5 +1,8 @@
 //! The auditor: whether recorded logs could have been made by replicas that coordinate well, and the first fault where
 //! they could not.
+//!
+//! It stands on records and on the laws of runs, and plays nothing: a log is accepted where an order of decisions explains
+//! it, so that records of real nodes can be audited. The command `audit` calls it.
 #![tactic(auto)]
 
 pub mod auditing;

@@ -1,4 +1,7 @@
 //! Schedules made from a number: scripts, and what becomes of them.
+//!
+//! It stands on worlds and replays: the commands `script` and `bulk` make the same draft, the one to print it, the other to
+//! count what became of it.
 #![tactic(auto)]
 
 mod counting;

@@ -1,5 +1,7 @@
 //! The top call: what the words of the command line ask, done over a shelf and a sink. Each command is a function of an
 //! object, of the bytes of the file beside it, and of what is asked; one place fetches these, and one puts the answer.
+//!
+//! It stands on all that has a command; the program calls `run`, and the clauses of `run` are what the system promises.
 #![tactic(auto)]
 
 mod answer;

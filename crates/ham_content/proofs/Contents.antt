@@ -13,7 +13,7 @@ use Rattle.std.specs.Cmp.{nat_eq_equiv}
 use Rattle.std.specs.Cmp.Lexicographic.{nat_list_eq_equiv}
 use Rattle.std.proofs.lemmas.Bool.{and_parts, eqb-true}
 use Rattle.ham_content.specs.Numbers.{same}
-use Rattle.ham_content.specs.declared.tables.Fact.{Fact}
+use Rattle.ham_content.specs.declared.tables.FactKey.{FactKey}
 use Rattle.ham_content.specs.declared.tables.Spot.{Spot}
 use Rattle.ham_content.specs.Kept.{fact, spot, same_fact, same_spot, facts_of, amounts_of, content}
 use Rattle.ham_steps.specs.Pattern.{is_row}
@@ -36,12 +36,12 @@ fact_test q r x row = tied_fact r q row x ∙ (λ i. nat_eq_equiv.symm r q i && 
 spot_test : (d c l k : ℕ) → eq_by_cmp spot_cmp (d, l) (c, k) ≡ same_spot (spot d l) (spot c k)
 spot_test d c l k = tied_spot c d k l ∙ (λ i. nat_eq_equiv.symm c d i && nat_eq_equiv.symm k l i)
 
-in_facts : (fs : List Fact) (q : ℕ) (x : List ℕ) → finmap.contains_key (facts_of fs) (q, x) ≡ list_any (same_fact (fact q x)) fs
+in_facts : (fs : List FactKey) (q : ℕ) (x : List ℕ) → finmap.contains_key (facts_of fs) (q, x) ≡ list_any (same_fact (fact q x)) fs
 unfolding facts_of
 in_facts [] q x = ap is_some (finmap.get-empty {X = Unit {0}} fact_cmp (q, x))
 in_facts (f ∷ fs) q x = there-insert (facts_of fs) (f.relation, f.row) (q, x) ∙ (λ i. fact_test q f.relation x f.row i || in_facts fs q x i)
 
-pub has-content : {S T : Type 0} (facts : HashSet Fact S) (amounts : HashMap Spot ℤ T) (q : ℕ) (x : List ℕ) → has (content facts amounts) q x ≡ bag.contains same_fact facts (fact q x)
+pub has-content : {S T : Type 0} (facts : HashSet FactKey S) (amounts : HashMap Spot ℤ T) (q : ℕ) (x : List ℕ) → has (content facts amounts) q x ≡ bag.contains same_fact facts (fact q x)
 unfolding has content
 has-content facts amounts q x = in_facts facts.keys q x
 
@@ -57,12 +57,12 @@ in_amounts (a ∷ es) d l =
     ∙ ap (λ b. amount (cond b (entry a.1) (finmap.get (amounts_of es) (d, l)))) (spot_test d a.0.counter l a.0.key)
     ∙ shown (same_spot (spot d l) a.0) a.1 (lookup (same_spot (spot d l)) es) (finmap.get (amounts_of es) (d, l)) (in_amounts es d l)
 
-pub value-content : {S T : Type 0} (facts : HashSet Fact S) (amounts : HashMap Spot ℤ T) (d l : ℕ) → value (content facts amounts) d l ≡ unwrap_or (hash.get same_spot amounts (spot d l)) (pos 0)
+pub value-content : {S T : Type 0} (facts : HashSet FactKey S) (amounts : HashMap Spot ℤ T) (d l : ℕ) → value (content facts amounts) d l ≡ unwrap_or (hash.get same_spot amounts (spot d l)) (pos 0)
 unfolding value content
 value-content facts amounts d l = in_amounts amounts.entries d l
 
 -- ---- one change
-pub put_content : {S T : Type 0} (facts new : HashSet Fact S) (amounts : HashMap Spot ℤ T) (r : ℕ) (row : List ℕ) → ((f : Fact) → bag.contains same_fact new f ≡ (same_fact (fact r row) f || bag.contains same_fact facts f)) → content new amounts ≡ with_row (content facts amounts) r row
+pub put_content : {S T : Type 0} (facts new : HashSet FactKey S) (amounts : HashMap Spot ℤ T) (r : ℕ) (row : List ℕ) → ((f : FactKey) → bag.contains same_fact new f ≡ (same_fact (fact r row) f || bag.contains same_fact facts f)) → content new amounts ≡ with_row (content facts amounts) r row
 put_content facts new amounts r row e =
     same_state _ _
     (λ q x. has-content new amounts q x ∙ e (fact q x) ∙ (λ i. ((r == q) && pointwise-row row x i) || sym (has-content facts amounts q x) i) ∙ sym (has-with_row (content facts amounts) r row q x))
@@ -74,7 +74,7 @@ swap true false = refl
 swap false true = refl
 swap false false = refl
 
-pub take_content : {S T : Type 0} (facts new : HashSet Fact S) (amounts : HashMap Spot ℤ T) (r : ℕ) (row : List ℕ) → ((f : Fact) → bag.contains same_fact new f ≡ (not (same_fact (fact r row) f) && bag.contains same_fact facts f)) → content new amounts ≡ without_rows (content facts amounts) r (is_row row)
+pub take_content : {S T : Type 0} (facts new : HashSet FactKey S) (amounts : HashMap Spot ℤ T) (r : ℕ) (row : List ℕ) → ((f : FactKey) → bag.contains same_fact new f ≡ (not (same_fact (fact r row) f) && bag.contains same_fact facts f)) → content new amounts ≡ without_rows (content facts amounts) r (is_row row)
 take_content facts new amounts r row e =
     same_state _ _
     (λ q x. has-content new amounts q x ∙ e (fact q x) ∙ (λ i. not ((r == q) && pointwise-row row x i) && sym (has-content facts amounts q x) i) ∙ swap _ _ ∙ sym (has-without_rows (content facts amounts) r (is_row row) q x))
@@ -84,7 +84,7 @@ changed : (b : Bool) (n p v w by : ℤ) → (b ≡ true → v ≡ w) → n ≡ (
 changed true n p v w by at e h = e ∙ ap (λ z. z +ℤ by) (at refl)
 changed false n p v w by at e h = h ∙ add_none w
 
-pub change_content : {S T : Type 0} (facts : HashSet Fact S) (amounts new : HashMap Spot ℤ T) (c k : ℕ) (by n : ℤ) → ((s : Spot) → unwrap_or (hash.get same_spot new s) (pos 0) ≡ cond (same_spot (spot c k) s) n (unwrap_or (hash.get same_spot amounts s) (pos 0))) → n ≡ (value (content facts amounts) c k +ℤ by) → content facts new ≡ with_change (content facts amounts) c k by
+pub change_content : {S T : Type 0} (facts : HashSet FactKey S) (amounts new : HashMap Spot ℤ T) (c k : ℕ) (by n : ℤ) → ((s : Spot) → unwrap_or (hash.get same_spot new s) (pos 0) ≡ cond (same_spot (spot c k) s) n (unwrap_or (hash.get same_spot amounts s) (pos 0))) → n ≡ (value (content facts amounts) c k +ℤ by) → content facts new ≡ with_change (content facts amounts) c k by
 change_content facts amounts new c k by n e is =
     same_state _ _
     (λ q x. has-content facts new q x ∙ sym (has-content facts amounts q x) ∙ sym (has-with_change (content facts amounts) c k by q x))

@@ -18,7 +18,7 @@ use Rattle.std.proofs.lemmas.Map.Keys.{IsDistinct-IsPermutation, apart_from_dist
 use Rattle.std.proofs.lemmas.Map.Lookups.{exact_bytes}
 use Rattle.ham_content.specs.Numbers.{same}
 use Rattle.ham_content.proofs.Numbers.{alike}
-use Rattle.ham_content.specs.declared.tables.Fact.{Fact}
+use Rattle.ham_content.specs.declared.tables.FactKey.{FactKey}
 use Rattle.ham_content.specs.declared.tables.Spot.{Spot}
 use Rattle.ham_content.specs.Kept.{fact, same_fact, content}
 use Rattle.ham_content.proofs.Contents.{has-content}
@@ -26,6 +26,7 @@ use Rattle.ham_content.proofs.Tallies.{among-rows, itself}
 use Rattle.ham_steps.specs.Content as words
 use Rattle.ham_steps.specs.Content.{fact_cmp, State, has, rows}
 use Rattle.ham_steps.proofs.ContentLaws.{same_tests, same_mark, tied-same, same-tied}
+use Rattle.ham_steps.proofs.Ascending.{rows_ascend}
 
 -- the order of rows
 abbrev row_cmp : List ℕ → List ℕ → Ordering
@@ -36,56 +37,8 @@ row_tied x y = same_tests _ _
     (λ e. let one : x ≡ y = tied-same exact_bytes x y e in subst (λ z. same x z ≡ true) one (itself x))
     (λ e. same-tied nat_list_cmp_total x y (alike x y e))
 
--- ---- a state's rows ascend
-and_first : (a b : Bool) → T (a && b) → T a
-and_first true b h = tt
-and_first false b h = h
-
-and_second : (a b : Bool) → T (a && b) → T b
-and_second true b h = h
-and_second false b h = absurd h
-
-is_less : (o : Ordering) → T (is_lt o) → o ≡ Less
-is_less Less h = refl
-is_less Equal h = absurd h
-is_less Greater h = absurd h
-
-below : (f : words.Fact) (es : List (words.Fact × Unit {0})) → T (below_all fact_cmp f es) → AllByRecursion (λ g. fact_cmp f g ≡ Less) (map (λ e. e.0) es)
-below f [] h = tt
-below f (e ∷ es) h = (is_less (fact_cmp f e.0) (and_first (is_lt (fact_cmp f e.0)) (below_all fact_cmp f es) h), below f es (and_second (is_lt (fact_cmp f e.0)) (below_all fact_cmp f es) h))
-
-facts_ascend : (es : List (words.Fact × Unit {0})) → T (is_sorted fact_cmp es) → IsStrictlySortedBy fact_cmp (map (λ e. e.0) es)
-unfolding IsStrictlySortedBy
-facts_ascend [] h = tt
-facts_ascend (e ∷ es) h = (below e.0 es (and_first (below_all fact_cmp e.0 es) (is_sorted fact_cmp es) h), facts_ascend es (and_second (below_all fact_cmp e.0 es) (is_sorted fact_cmp es) h))
-
-row_below : (r : ℕ) (f : words.Fact) (fs : List words.Fact) → (r == f.0) ≡ true → AllByRecursion (λ g. fact_cmp f g ≡ Less) fs → AllByRecursion (λ y. row_cmp f.1 y ≡ Less) (map (λ g. g.1) (filter (λ g. r == g.0) fs))
-row_below r f [] e h = tt
-row_below r f (g ∷ fs) e h =
-    let rest = row_below r f fs e h.1 in
-    elim (r == g.0) as (λ b. (r == g.0) ≡ b → AllByRecursion (λ y. row_cmp f.1 y ≡ Less) (map (λ z. z.1) (cond b (g ∷ filter (λ z. r == z.0) fs) (filter (λ z. r == z.0) fs)))) [
-      | true ↦ λ a.
-          let one : f.0 ≡ g.0 = sym (eqb-true r f.0 e) ∙ eqb-true r g.0 a in
-          let tie : nat_cmp f.0 g.0 ≡ Equal = subst (λ n. nat_cmp f.0 n ≡ Equal) one (tied_itself nat_cmp_total f.0) in
-          (ap (λ o. ordering_then o (row_cmp f.1 g.1)) (sym tie) ∙ h.0, rest)
-      | false ↦ λ a. rest
-    ] refl
-
-rows_ascend_of : (r : ℕ) (fs : List words.Fact) → IsStrictlySortedBy fact_cmp fs → IsStrictlySortedBy row_cmp (map (λ g. g.1) (filter (λ g. r == g.0) fs))
-unfolding IsStrictlySortedBy
-rows_ascend_of r [] h = tt
-rows_ascend_of r (f ∷ fs) h =
-    elim (r == f.0) as (λ b. (r == f.0) ≡ b → IsStrictlySortedBy row_cmp (map (λ z. z.1) (cond b (f ∷ filter (λ z. r == z.0) fs) (filter (λ z. r == z.0) fs)))) [
-      | true ↦ λ a. (row_below r f fs a h.0, rows_ascend_of r fs h.1)
-      | false ↦ λ a. rows_ascend_of r fs h.1
-    ] refl
-
-rows_ascend : (s : State) (r : ℕ) → IsStrictlySortedBy row_cmp (rows s r)
-unfolding rows
-rows_ascend s r = rows_ascend_of r (finmap.keys s.facts) (facts_ascend (finmap.entries s.facts) (finmap.entries_sorted s.facts))
-
 -- ---- the facts of a relation, as rows
-apart_from : (r : ℕ) (f : Fact) (fs : List Fact) → (r == f.relation) ≡ true → AllByRecursion (λ g. same_fact f g ≡ false) fs → AllByRecursion (λ y. same f.row y ≡ false) (map (λ g. g.row) (filter (λ g. r == g.relation) fs))
+apart_from : (r : ℕ) (f : FactKey) (fs : List FactKey) → (r == f.relation) ≡ true → AllByRecursion (λ g. same_fact f g ≡ false) fs → AllByRecursion (λ y. same f.row y ≡ false) (map (λ g. g.row) (filter (λ g. r == g.relation) fs))
 apart_from r f [] e h = tt
 apart_from r f (g ∷ fs) e h =
     let rest = apart_from r f fs e h.1 in
@@ -96,7 +49,7 @@ apart_from r f (g ∷ fs) e h =
       | false ↦ λ a. rest
     ] refl
 
-gathered_apart : (r : ℕ) (fs : List Fact) → IsDistinct same_fact fs → IsDistinct same (map (λ g. g.row) (filter (λ g. r == g.relation) fs))
+gathered_apart : (r : ℕ) (fs : List FactKey) → IsDistinct same_fact fs → IsDistinct same (map (λ g. g.row) (filter (λ g. r == g.relation) fs))
 unfolding IsDistinct
 gathered_apart r [] h = tt
 gathered_apart r (f ∷ fs) h =
@@ -105,7 +58,7 @@ gathered_apart r (f ∷ fs) h =
       | false ↦ λ a. gathered_apart r fs h.1
     ] refl
 
-gathered_same : (r : ℕ) (x : List ℕ) (fs : List Fact) → list_any (same x) (map (λ g. g.row) (filter (λ g. r == g.relation) fs)) ≡ list_any (same_fact (fact r x)) fs
+gathered_same : (r : ℕ) (x : List ℕ) (fs : List FactKey) → list_any (same x) (map (λ g. g.row) (filter (λ g. r == g.relation) fs)) ≡ list_any (same_fact (fact r x)) fs
 gathered_same r x [] = refl
 gathered_same r x (f ∷ fs) =
     elim (r == f.relation) as (λ b. list_any (same x) (map (λ z. z.row) (cond b (f ∷ filter (λ z. r == z.relation) fs) (filter (λ z. r == z.relation) fs))) ≡ ((b && same x f.row) || list_any (same_fact (fact r x)) fs)) [
@@ -165,9 +118,9 @@ one_list xs ys up vp is =
     found : (q : List ℕ) (zs : List (List ℕ)) → is_some (find row_cmp q (marked zs)) ≡ list_any (same q) zs
     found q zs = is_some-find row_cmp q (marked zs) ∙ ap (list_any (eq_by_cmp row_cmp q)) (unmarked zs) ∙ any_tied q zs
 
-pub sorted-rows : {S U : Type 0} (facts : HashSet Fact S) (amounts : HashMap Spot ℤ U) (r : ℕ) (ys : List (List ℕ)) → IsDistinct same_fact facts.keys → IsPermutation (map (λ f. f.row) (filter (λ f. r == f.relation) facts.keys)) ys → IsSorted row_cmp ys → ys ≡ rows (content facts amounts) r
+pub sorted-rows : {S U : Type 0} (facts : HashSet FactKey S) (amounts : HashMap Spot ℤ U) (r : ℕ) (ys : List (List ℕ)) → IsDistinct same_fact facts.keys → IsPermutation (map (λ f. f.row) (filter (λ f. r == f.relation) facts.keys)) ys → IsSorted row_cmp ys → ys ≡ rows (content facts amounts) r
 sorted-rows facts amounts r ys apart moved up =
-    let xs = map (λ (f : Fact). f.row) (filter (λ f. r == f.relation) facts.keys) in
+    let xs = map (λ (f : FactKey). f.row) (filter (λ f. r == f.relation) facts.keys) in
     one_list ys (rows (content facts amounts) r)
     (ascending ys up (IsDistinct-IsPermutation same nat_list_eq_equiv.symm xs ys moved (gathered_apart r facts.keys apart)))
     (rows_ascend (content facts amounts) r)

@@ -8,7 +8,7 @@ use Rattle.std.specs.Cmp.Lexicographic.{nat_list_eq_equiv}
 use Rattle.std.proofs.lemmas.Bool.{and_parts, and_from, or_cases, or_left, or_right, eqb-true, eq-eqb, true≢false}
 use Rattle.ham_content.specs.Numbers.{same}
 use Rattle.ham_content.proofs.Numbers.{alike}
-use Rattle.ham_content.specs.declared.tables.Fact.{Fact}
+use Rattle.ham_content.specs.declared.tables.FactKey.{FactKey}
 use Rattle.ham_content.specs.declared.tables.Spot.{Spot}
 use Rattle.ham_content.specs.Kept.{fact, same_fact, content}
 use Rattle.ham_content.proofs.Contents.{has-content}
@@ -18,10 +18,10 @@ use Rattle.ham_steps.specs.Pattern.{matches}
 use Rattle.ham_steps.specs.Content.{State, has, rows}
 use Rattle.ham_steps.proofs.ContentLaws.{same_tests, any_row, row_any, is_row-same, is_row-itself}
 
-pub fact_itself : (f : Fact) → same_fact f f ≡ true
+pub fact_itself : (f : FactKey) → same_fact f f ≡ true
 fact_itself f = and_from (f.relation == f.relation) (same f.row f.row) (eq-eqb f.relation f.relation refl) (nat_list_eq_equiv.refl f.row)
 
-pub found_too : (fs : List Fact) (r q : ℕ) (x : List ℕ) (p : List ℕ → Bool) → list_any (same_fact (fact q x)) fs ≡ true → (r == q) ≡ true → p x ≡ true → list_any (λ f. (f.relation == r) && p f.row) fs ≡ true
+pub found_too : (fs : List FactKey) (r q : ℕ) (x : List ℕ) (p : List ℕ → Bool) → list_any (same_fact (fact q x)) fs ≡ true → (r == q) ≡ true → p x ≡ true → list_any (λ f. (f.relation == r) && p f.row) fs ≡ true
 found_too [] r q x p e a h = absurd (true≢false (sym e))
 found_too (f ∷ fs) r q x p e a h =
     elim (or_cases (same_fact (fact q x) f) (list_any (same_fact (fact q x)) fs) e) [
@@ -38,10 +38,10 @@ found_none {X} t (x ∷ xs) e =
       | false ↦ λ rest h. rest h
     ] (found_none t xs) e
 
-pub found_some : (t : Fact → Bool) (xs : List Fact) (f : Fact) → find t xs ≡ Some f → (list_any (same_fact f) xs ≡ true) × (t f ≡ true)
+pub found_some : (t : FactKey → Bool) (xs : List FactKey) (f : FactKey) → find t xs ≡ Some f → (list_any (same_fact f) xs ≡ true) × (t f ≡ true)
 found_some t [] f e = cc
 found_some t (x ∷ xs) f e =
-    elim (t x) as (λ b. t x ≡ b → (find t xs ≡ Some f → (list_any (same_fact f) xs ≡ true) × (t f ≡ true)) → ◌≡◌ {A = Option Fact} (cond b (Some x) (find t xs)) (Some f) → ((same_fact f x || list_any (same_fact f) xs) ≡ true) × (t f ≡ true)) [
+    elim (t x) as (λ b. t x ≡ b → (find t xs ≡ Some f → (list_any (same_fact f) xs ≡ true) × (t f ≡ true)) → ◌≡◌ {A = Option FactKey} (cond b (Some x) (find t xs)) (Some f) → ((same_fact f x || list_any (same_fact f) xs) ≡ true) × (t f ≡ true)) [
       | true ↦ λ is rest h.
           let same_item : x ≡ f = cc in
           (or_left (same_fact f x) (list_any (same_fact f) xs) (subst (λ z. same_fact f z ≡ true) (sym same_item) (fact_itself f)), subst (λ z. t z ≡ true) same_item is)
@@ -49,7 +49,7 @@ found_some t (x ∷ xs) f e =
     ] refl (found_some t xs f) e
 
 -- a fact of the relation, by its row
-pub found_row : (r : ℕ) (p : List ℕ → Bool) (xs : List Fact) (f : Fact) → find (λ g. (g.relation == r) && p g.row) xs ≡ Some f → (list_any (same_fact (fact r f.row)) xs ≡ true) × (p f.row ≡ true)
+pub found_row : (r : ℕ) (p : List ℕ → Bool) (xs : List FactKey) (f : FactKey) → find (λ g. (g.relation == r) && p g.row) xs ≡ Some f → (list_any (same_fact (fact r f.row)) xs ≡ true) × (p f.row ≡ true)
 found_row r p xs f e =
     let w = found_some (λ g. (g.relation == r) && p g.row) xs f e in
     let q = and_parts (f.relation == r) (p f.row) w.1 in
@@ -57,7 +57,7 @@ found_row r p xs f e =
     (subst (λ z. list_any (same_fact z) xs ≡ true) named w.0, q.1)
 
 -- a fact that passes, by its row
-pub row_in : (fs : List Fact) (r : ℕ) (p : List ℕ → Bool) → list_any (λ f. (f.relation == r) && p f.row) fs ≡ true → (x : List ℕ) × (list_any (same_fact (fact r x)) fs ≡ true) × (p x ≡ true)
+pub row_in : (fs : List FactKey) (r : ℕ) (p : List ℕ → Bool) → list_any (λ f. (f.relation == r) && p f.row) fs ≡ true → (x : List ℕ) × (list_any (same_fact (fact r x)) fs ≡ true) × (p x ≡ true)
 row_in [] r p e = absurd (true≢false (sym e))
 row_in (f ∷ fs) r p e =
     elim (or_cases ((f.relation == r) && p f.row) (list_any (λ g. (g.relation == r) && p g.row) fs) e) [
@@ -70,7 +70,7 @@ row_in (f ∷ fs) r p e =
 
 -- ---- whether there is a row that matches
 -- a fact that passes is a row that passes
-pub some_row : {S T : Type 0} (facts : HashSet Fact S) (amounts : HashMap Spot ℤ T) (r : ℕ) (p : List ℕ → Bool) → list_any (λ f. (f.relation == r) && p f.row) facts.keys ≡ list_any p (rows (content facts amounts) r)
+pub some_row : {S T : Type 0} (facts : HashSet FactKey S) (amounts : HashMap Spot ℤ T) (r : ℕ) (p : List ℕ → Bool) → list_any (λ f. (f.relation == r) && p f.row) facts.keys ≡ list_any p (rows (content facts amounts) r)
 some_row facts amounts r p =
     same_tests _ _
     (λ e. let w = row_in facts.keys r p e in row_any (content facts amounts) r p w.0 (has-content facts amounts r w.0 ∙ w.1) w.2)

@@ -18,7 +18,7 @@ use Rattle.ham_content.specs.Counted.{at_columns}
 use Rattle.ham_content.specs.Kept.{fact, same_fact, content}
 use Rattle.ham_content.specs.Seats.{seat, same_seat, IsSieve}
 use Rattle.ham_content.specs.declared.sieve.Sieve.{Sieve}
-use Rattle.ham_content.specs.declared.tables.Fact.{Fact}
+use Rattle.ham_content.specs.declared.tables.FactKey.{FactKey}
 use Rattle.ham_content.specs.declared.tables.Spot.{Spot}
 use Rattle.ham_content.proofs.Contents.{has-content}
 use Rattle.ham_content.proofs.Matched.{row_in, found_too}
@@ -78,7 +78,7 @@ matches_at (t ∷ ts) (x ∷ xs) (suc i) id e m = matches_at ts xs i id e (and_p
 
 -- ---- a match, as it is found
 -- what a search for a match answers
-abbrev pub FoundMatch : {S : Type 0} → HashSet Fact S → ℕ → (List ℕ → Bool) → Option (List ℕ) → Type 0
+abbrev pub FoundMatch : {S : Type 0} → HashSet FactKey S → ℕ → (List ℕ → Bool) → Option (List ℕ) → Type 0
 FoundMatch facts r p o = MatchOption o (list_any (λ f. (f.relation == r) && p f.row) facts.keys ≡ false) (λ row. (bag.contains same_fact facts (fact r row) ≡ true) × (p row ≡ true))
 
 not_true : (b : Bool) → not b ≡ true → b ≡ true → ⊥
@@ -88,7 +88,7 @@ not_false : (b : Bool) → not b ≡ false → b ≡ true
 not_false true e = refl
 not_false false e = absurd (true≢false e)
 
-pub match_found : {S T : Type 0} (facts : HashSet Fact S) (amounts : HashMap Spot ℤ T) (v : Sieve) (r : ℕ) (p : List ℕ → Bool) (key : List ℕ) (o : Option (List ℕ)) → v.relation ≡ r → ((x : List ℕ) → p x ≡ true → at_columns v.columns x ≡ key)
+pub match_found : {S T : Type 0} (facts : HashSet FactKey S) (amounts : HashMap Spot ℤ T) (v : Sieve) (r : ℕ) (p : List ℕ → Bool) (key : List ℕ) (o : Option (List ℕ)) → v.relation ≡ r → ((x : List ℕ) → p x ≡ true → at_columns v.columns x ≡ key)
     → MatchOption o ((x : List ℕ) → has (content facts amounts) v.relation x ≡ true → at_columns v.columns x ≡ key → not (p x) ≡ true) (λ row. (has (content facts amounts) v.relation row ≡ true) × (at_columns v.columns row ≡ key) × (not (p row) ≡ false))
     → FoundMatch facts r p o
 match_found facts amounts v r p key None same_relation said none =
@@ -98,6 +98,6 @@ match_found facts amounts v r p key None same_relation said none =
 match_found facts amounts v r p key (Some row) same_relation said found =
     (sym (has-content facts amounts r row) ∙ ap (λ q. has (content facts amounts) q row) (sym same_relation) ∙ found.0, not_false (p row) found.2)
 
-pub match_some : {S : Type 0} (facts : HashSet Fact S) (r : ℕ) (p : List ℕ → Bool) (o : Option (List ℕ)) → FoundMatch facts r p o → is_some o ≡ list_any (λ f. (f.relation == r) && p f.row) facts.keys
+pub match_some : {S : Type 0} (facts : HashSet FactKey S) (r : ℕ) (p : List ℕ → Bool) (o : Option (List ℕ)) → FoundMatch facts r p o → is_some o ≡ list_any (λ f. (f.relation == r) && p f.row) facts.keys
 match_some facts r p None none = sym none
 match_some facts r p (Some row) found = sym (found_too facts.keys r r row p found.0 (eq-eqb r r refl) found.1)

@@ -23,7 +23,7 @@ use Rattle.ham_content.specs.Numbers.{same, IsNumber}
 use Rattle.ham_content.specs.Tallies.{has_at}
 use Rattle.ham_content.proofs.Numbers.{alike, number_same, one_number, some_from_member}
 use Rattle.ham_content.proofs.Tallied.{tallied_more, tallied_less}
-use Rattle.ham_content.specs.declared.tables.Fact.{Fact}
+use Rattle.ham_content.specs.declared.tables.FactKey.{FactKey}
 use Rattle.ham_content.specs.declared.tables.Spot.{Spot}
 use Rattle.ham_content.specs.Kept.{fact, same_fact, content}
 use Rattle.ham_content.specs.Counted.{at_columns, tally}
@@ -161,7 +161,7 @@ tally-less s t r row columns k there less =
     shape q false e = ap (λ b. (tally s r columns q - (if b then 1 else 0)) + (if b then 1 else 0)) e ∙ omega arith
 
 -- ---- a tally is at most the number of facts
-pub exact : (f g : Fact) → same_fact f g ≡ true → f ≡ g
+pub exact : (f g : FactKey) → same_fact f g ≡ true → f ≡ g
 exact f g e = let p = and_parts (f.relation == g.relation) (same f.row g.row) e in
     let a = eqb-true f.relation g.relation p.0 in
     let b = alike f.row g.row p.1 in
@@ -183,7 +183,7 @@ facts_apart r (x ∷ xs) h = IsDistinct-cons same_fact (fact r x) (map (fact r) 
     others [] a = tt
     others (y ∷ ys) a = ((λ i. eq-eqb r r refl i && a.0 i), others ys a.1)
 
-among_facts : (r : ℕ) (q : Fact) (xs : List (List ℕ)) → list_any (same_fact q) (map (fact r) xs) ≡ true → (q.relation ≡ r) × (list_any (same q.row) xs ≡ true)
+among_facts : (r : ℕ) (q : FactKey) (xs : List (List ℕ)) → list_any (same_fact q) (map (fact r) xs) ≡ true → (q.relation ≡ r) × (list_any (same q.row) xs ≡ true)
 among_facts r q [] e = absurd (true≢false (sym e))
 among_facts r q (x ∷ xs) e =
     elim (or_cases (same_fact q (fact r x)) (list_any (same_fact q) (map (fact r) xs)) e) [
@@ -195,7 +195,7 @@ among_facts r q (x ∷ xs) e =
     or_later true b h = refl
     or_later false b h = h
 
-pub tally-few : {S T : Type 0} (facts : HashSet Fact S) (amounts : HashMap Spot ℤ T) (r : ℕ) (columns k : List ℕ) → tally (content facts amounts) r columns k ≤ bag.hash_set_len facts
+pub tally-few : {S T : Type 0} (facts : HashSet FactKey S) (amounts : HashMap Spot ℤ T) (r : ℕ) (columns k : List ℕ) → tally (content facts amounts) r columns k ≤ bag.hash_set_len facts
 tally-few facts amounts r columns k =
     let number = number-tally (content facts amounts) r columns k in
     let below : length (map (fact r) number.those) ≤ length facts.keys = length-le_from_is_member fact_laws (map (fact r) number.those) facts.keys (facts_apart r number.those number.apart) (λ q e.

@@ -5,24 +5,24 @@ use Rattle.std.specs.FinMap as finmap
 use Rattle.std.specs.HashMap.{HashMap}
 use Rattle.std.specs.HashSet.{HashSet}
 use Rattle.ham_content.specs.Numbers.{same}
-use Rattle.ham_content.specs.declared.tables.Fact.{Fact}
+use Rattle.ham_content.specs.declared.tables.FactKey.{FactKey}
 use Rattle.ham_content.specs.declared.tables.Spot.{Spot}
 use Rattle.ham_steps.specs.Content.{fact_cmp, spot_cmp, put_amount, entry, State}
 
-abbrev pub fact : ℕ → List ℕ → Fact
+abbrev pub fact : ℕ → List ℕ → FactKey
 fact r x = record { relation = r; row = x }
 
 abbrev pub spot : ℕ → ℕ → Spot
 spot c k = record { counter = c; key = k }
 
-abbrev pub same_fact : Fact → Fact → Bool
+abbrev pub same_fact : FactKey → FactKey → Bool
 same_fact a b = (a.relation == b.relation) && same a.row b.row
 
 abbrev pub same_spot : Spot → Spot → Bool
 same_spot a b = (a.counter == b.counter) && (a.key == b.key)
 
 -- the facts, as a set
-unfoldable pub facts_of : List Fact → set.FinSet fact_cmp
+unfoldable pub facts_of : List FactKey → set.FinSet fact_cmp
 facts_of [] = finmap.empty
 facts_of (f ∷ fs) = finmap.insert (facts_of fs) (f.relation, f.row) tt
 
@@ -32,5 +32,5 @@ amounts_of [] = finmap.empty
 amounts_of (a ∷ rest) = put_amount (amounts_of rest) (a.0.counter, a.0.key) (entry a.1)
 
 -- the content that the tables keep, in whatever order
-unfoldable pub content : {S T : Type 0} → HashSet Fact S → HashMap Spot ℤ T → State
+unfoldable pub content : {S T : Type 0} → HashSet FactKey S → HashMap Spot ℤ T → State
 content facts amounts = record { facts = facts_of facts.keys; amounts = amounts_of amounts.entries }

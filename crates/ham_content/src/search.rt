@@ -12,7 +12,7 @@ ghost use Rattle.ham_content.specs.Seats.{IsSieve, AreSieves};
 
 use crate::seats::row_at;
 use crate::sieve::Sieve;
-use crate::tables::{Fact, Spot, has_row};
+use crate::tables::{FactKey, Spot, has_row};
 use crate::tally::count_at;
 use ham_steps::{Row, constants, row_matches};
 use ham_syntax::limits::MAX_COLUMNS;
@@ -34,7 +34,7 @@ pub trait RowTest {
 
 /// A row at the key that fails the test. The rows at the key are looked through, from the last on.
 pub fn failing_at<T: RowTest>(
-    facts: &HashSet<Fact>,
+    facts: &HashSet<FactKey>,
     amounts: &HashMap<Spot, i128>,
     sieve: &Sieve,
     key: &Row,
@@ -98,14 +98,14 @@ pub fn key_in(columns: &Cols, pattern: &[Term]) -> Option<Row>
 }
 
 /// Whether the fact is one of the relation that matches the pattern.
-fn is_match(fact: &Fact, relation: u8, pattern: &[Term]) -> bool
+fn is_match(fact: &FactKey, relation: u8, pattern: &[Term]) -> bool
     ensures { result ≡ ((fact.now.relation == relation) && matches pattern.now fact.now.row) }
 {
     fact.relation == relation && row_matches(pattern, fact.row.items())
 }
 
 /// The first fact of the relation that matches the pattern, in whatever order the table has.
-fn find_fact(facts: &HashSet<Fact>, relation: u8, pattern: &[Term]) -> Option<Fact>
+fn find_fact(facts: &HashSet<FactKey>, relation: u8, pattern: &[Term]) -> Option<FactKey>
     ensures { result ≡ find (λ f. (f.relation == relation) && matches pattern.now f.row) facts.now.keys }
 {
     facts
@@ -115,7 +115,7 @@ fn find_fact(facts: &HashSet<Fact>, relation: u8, pattern: &[Term]) -> Option<Fa
 }
 
 /// A row of the relation that matches the pattern, found by a look through the facts.
-fn scan_for_match(facts: &HashSet<Fact>, relation: u8, pattern: &[Term]) -> Option<Row>
+fn scan_for_match(facts: &HashSet<FactKey>, relation: u8, pattern: &[Term]) -> Option<Row>
     ensures { MatchOption result (list_any (λ f. (f.relation == relation) && matches pattern.now f.row) facts.now.keys ≡ false) (λ row. (bag.contains same_fact facts.now (fact relation row) ≡ true) × (matches pattern.now row ≡ true)) }
 {
     match find_fact(facts, relation, pattern) {
@@ -127,7 +127,7 @@ fn scan_for_match(facts: &HashSet<Fact>, relation: u8, pattern: &[Term]) -> Opti
 /// A row of the relation that matches the pattern, where there is one. It is found in the first sieve whose columns the
 /// pattern says; where none fits, the facts are looked through.
 pub fn find_match(
-    facts: &HashSet<Fact>,
+    facts: &HashSet<FactKey>,
     amounts: &HashMap<Spot, i128>,
     sieves: &[Sieve],
     relation: u8,
@@ -148,7 +148,7 @@ pub fn find_match(
 
 /// Whether a row of the relation matches the pattern.
 pub fn some_match(
-    facts: &HashSet<Fact>,
+    facts: &HashSet<FactKey>,
     amounts: &HashMap<Spot, i128>,
     sieves: &[Sieve],
     relation: u8,

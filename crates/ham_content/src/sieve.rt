@@ -11,7 +11,7 @@ ghost use Rattle.ham_content.specs.Seats.{AreListed, is_seated, HaveSeats, IsSie
 
 use crate::columns::project;
 use crate::seats::{Seat, number_of, row_at, sit, stand};
-use crate::tables::{Fact, Spot};
+use crate::tables::{FactKey, Spot};
 use crate::tally::{count_at, lower, raise};
 use ham_steps::Row;
 use ham_syntax::Cols;
@@ -92,7 +92,7 @@ fn unseat_row(
 
 /// A row that isn't there is about to come. There is room.
 pub fn sit_row(
-    facts: &HashSet<Fact>,
+    facts: &HashSet<FactKey>,
     amounts: &HashMap<Spot, i128>,
     sieve: &mut Sieve,
     relation: u8,
@@ -120,7 +120,7 @@ pub fn sit_row(
 
 /// A row that is there is about to go.
 pub fn stand_row(
-    facts: &HashSet<Fact>,
+    facts: &HashSet<FactKey>,
     amounts: &HashMap<Spot, i128>,
     sieve: &mut Sieve,
     relation: u8,

@@ -8,14 +8,14 @@ ghost use Rattle.ham_content.specs.Kept.{content};
 ghost use Rattle.ham_content.specs.Seats.{IsSieve, HasSeats, AreSieves, AllHaveSeats};
 
 use crate::sieve::{Sieve, sit_row, stand_row};
-use crate::tables::{Fact, Spot};
+use crate::tables::{FactKey, Spot};
 use ham_steps::Row;
 use std::alloc::AllocError;
 use std::collections::{HashMap, HashSet};
 
 /// A row that isn't there is about to come. Each sieve has room.
 pub fn sit_all(
-    facts: &HashSet<Fact>,
+    facts: &HashSet<FactKey>,
     amounts: &HashMap<Spot, i128>,
     sieves: &mut [Sieve],
     relation: u8,
@@ -34,7 +34,7 @@ pub fn sit_all(
 
 /// A row that is there is about to go.
 pub fn stand_all(
-    facts: &HashSet<Fact>,
+    facts: &HashSet<FactKey>,
     amounts: &HashMap<Spot, i128>,
     sieves: &mut [Sieve],
     relation: u8,

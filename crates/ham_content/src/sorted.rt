@@ -4,13 +4,13 @@ ghost use Rattle.std.specs.Prelude.{◌≡◌, ◌==◌, map, filter, IfOk};
 ghost use Rattle.ham_steps.specs.Content.{rows};
 ghost use Rattle.ham_content.specs.Kept.{content};
 
-use crate::tables::{Fact, Spot};
+use crate::tables::{FactKey, Spot};
 use ham_steps::Row;
 use std::alloc::{AllocError, Global};
 use std::collections::{HashMap, HashSet};
 
 /// The relation's rows, in whatever order the table has.
-fn gathered(alloc: Global, facts: &HashSet<Fact>, relation: u8) -> Result<Vec<Row>, AllocError>
+fn gathered(alloc: Global, facts: &HashSet<FactKey>, relation: u8) -> Result<Vec<Row>, AllocError>
     ensures { IfOk result (λ list. list.items ≡ map (λ f. f.row) (filter (λ f. relation == f.relation) facts.now.keys)) }
 {
     facts
@@ -24,7 +24,7 @@ fn gathered(alloc: Global, facts: &HashSet<Fact>, relation: u8) -> Result<Vec<Ro
 /// The relation's rows, ascending.
 pub fn rows_of(
     alloc: Global,
-    facts: &HashSet<Fact>,
+    facts: &HashSet<FactKey>,
     amounts: &HashMap<Spot, i128>,
     relation: u8,
 ) -> Result<Vec<Row>, AllocError>

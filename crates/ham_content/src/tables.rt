@@ -14,7 +14,7 @@ use std::collections::{HashMap, HashSet};
 
 /// A row in a relation.
 #[derive(Clone, Copy, PartialEq, Eq, Hash, Debug)]
-pub struct Fact {
+pub struct FactKey {
     pub relation: u8,
     pub row: Row,
 }
@@ -27,10 +27,10 @@ pub struct Spot {
 }
 
 /// Whether the row is in the relation.
-pub fn has(facts: &HashSet<Fact>, relation: u8, row: Row) -> bool
+pub fn has(facts: &HashSet<FactKey>, relation: u8, row: Row) -> bool
     ensures { result ≡ bag.contains same_fact facts.now (fact relation row) }
 {
-    facts.contains(&Fact { relation, row })
+    facts.contains(&FactKey { relation, row })
 }
 
 pub fn amount_at(amounts: &HashMap<Spot, i128>, counter: u8, key: u64) -> i128
@@ -43,7 +43,7 @@ pub fn amount_at(amounts: &HashMap<Spot, i128>, counter: u8, key: u64) -> i128
 }
 
 /// What the counter is at the key.
-pub fn value(facts: &HashSet<Fact>, amounts: &HashMap<Spot, i128>, counter: u8, key: u64) -> i128
+pub fn value(facts: &HashSet<FactKey>, amounts: &HashMap<Spot, i128>, counter: u8, key: u64) -> i128
     ensures { result ≡ contents.value (content facts.now amounts.now) counter key }
 {
     let _facts = facts;
@@ -51,29 +51,34 @@ pub fn value(facts: &HashSet<Fact>, amounts: &HashMap<Spot, i128>, counter: u8, 
 }
 
 /// Whether the row is in the relation.
-pub fn has_row(facts: &HashSet<Fact>, amounts: &HashMap<Spot, i128>, relation: u8, row: Row) -> bool
+pub fn has_row(
+    facts: &HashSet<FactKey>,
+    amounts: &HashMap<Spot, i128>,
+    relation: u8,
+    row: Row,
+) -> bool
     ensures { result ≡ contents.has (content facts.now amounts.now) relation row }
 {
     has(facts, relation, row)
 }
 
 /// Puts in a row, for which there is room.
-pub fn put(facts: &mut HashSet<Fact>, amounts: &HashMap<Spot, i128>, relation: u8, row: Row)
+pub fn put(facts: &mut HashSet<FactKey>, amounts: &HashMap<Spot, i128>, relation: u8, row: Row)
     requires room { 0 < bag.spare facts.old }
     ensures content { content facts.new amounts.now ≡ with_row (content facts.old amounts.now) relation row }
     ensures room { bag.spare facts.old ≤ bag.spare facts.new + 1 }
 {
     // There is room, so this can't fail.
-    let _ = facts.insert(Fact { relation, row });
+    let _ = facts.insert(FactKey { relation, row });
 }
 
 /// Takes out a row.
-pub fn take(facts: &mut HashSet<Fact>, amounts: &HashMap<Spot, i128>, relation: u8, row: Row)
+pub fn take(facts: &mut HashSet<FactKey>, amounts: &HashMap<Spot, i128>, relation: u8, row: Row)
     ensures content { content facts.new amounts.now ≡ without_rows (content facts.old amounts.now) relation (is_row row) }
     ensures room { bag.spare facts.old ≤ bag.spare facts.new }
     ensures len { bag.hash_set_len facts.new + (if bag.contains same_fact facts.old (fact relation row) then 1 else 0) ≡ bag.hash_set_len facts.old }
 {
-    facts.remove(&Fact { relation, row });
+    facts.remove(&FactKey { relation, row });
 }
 
 /// Writes the number at the counter's key; there is room. No amount of 0 is kept.
@@ -92,7 +97,7 @@ fn set_amount(amounts: &mut HashMap<Spot, i128>, counter: u8, key: u64, number: 
 
 /// Adds to the counter at the key, which comes to the number; there is room.
 pub fn change(
-    facts: &HashSet<Fact>,
+    facts: &HashSet<FactKey>,
     amounts: &mut HashMap<Spot, i128>,
     counter: u8,
     key: u64,

@@ -1,4 +1,6 @@
 //! The digest of an object.
+//!
+//! It stands on the plain form; peers greet each other with it, and part where their objects differ.
 #![tactic(auto)]
 
 ghost use Rattle.std.specs.Prelude.{◌≡◌, IfOk};

@@ -1,4 +1,7 @@
 //! What both forms of object files share: faults, and what words stand for.
+//!
+//! It stands on the check, whose raw objects the forms are texts of, and below both forms: a fault of a file is one type,
+//! whichever form it had.
 #![tactic(auto)]
 
 pub mod fault;

@@ -1,4 +1,6 @@
 //! The lines of schedules: their grammar, read and printed.
+//!
+//! It stands on lines and turns. `ham_replay` reads schedules by it, and scripts print theirs.
 #![tactic(auto)]
 
 pub mod laws;

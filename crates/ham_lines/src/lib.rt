@@ -1,5 +1,8 @@
 //! What lines of schedules and lines of clients share: numbers, and acts, counters and relations by name. The lines of
 //! clients, and the texts of answers.
+//!
+//! It stands on the text layer and on turns. `ham_grammar` reads schedules by it, `ham_serve` clients' lines, and both
+//! replays and nodes write their answers by it, so that a word means one thing in both.
 #![tactic(auto)]
 
 mod answer;

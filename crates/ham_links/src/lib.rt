@@ -1,5 +1,8 @@
 //! The outside of a node: links to clients and peers, the ports and the switchboard that they come from, and clocks. Each is a
 //! trait with counts of its faults, a form in memory, and one over TCP or the time of the machine.
+//!
+//! It stands on the outside's words (`ham_bytes`). What serves clients and peers is written over these traits, so that it is
+//! proved for every link, however it fails.
 #![tactic(auto)]
 
 mod clock;

@@ -1,4 +1,7 @@
 //! Objects in plain form: their reader and their printer.
+//!
+//! The form that `normal` prints and that the digest of an object is taken of: each object has exactly one. It stands on the
+//! text layer and the check; `ham_objfile` chooses between it and TOML, `ham_digest` hashes what it prints.
 #![tactic(auto)]
 
 mod draft;

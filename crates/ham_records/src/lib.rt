@@ -1,4 +1,7 @@
 //! Recorded logs, and their text: what replicas logged, gathered to be audited.
+//!
+//! It stands on the text layer alone, since records come from whoever kept logs. `ham_record` and nodes write them,
+//! `ham_audit` reads them.
 #![tactic(auto)]
 
 mod draft;

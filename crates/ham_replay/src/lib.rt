@@ -1,4 +1,7 @@
 //! The replay of a schedule: the text of the one run that its lines make.
+//!
+//! It stands on worlds and the grammar; the command `replay` calls it, and records and scripts are said by the run that it
+//! makes.
 #![tactic(auto)]
 
 mod asking;

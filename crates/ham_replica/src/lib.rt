@@ -1,4 +1,7 @@
 //! A replica and its turns.
+//!
+//! One replica of any object under any plan: `issue`, `deliver` and `tick` take its turns as the table says, over lanes,
+//! buffer and requests. Worlds play several of them, and a node keeps one.
 #![tactic(auto)]
 
 mod begin;

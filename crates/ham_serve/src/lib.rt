@@ -1,4 +1,6 @@
 //! What a node tells its clients: lines in, lines out, by any door and any link.
+//!
+//! It stands on the core's doors and on links. A worker of `ham_workers` calls `serve_client` for each client that comes.
 #![tactic(auto)]
 
 pub mod laws;

@@ -13,7 +13,7 @@ use Rattle.std.proofs.lemmas.Bool.{and_parts, and_from, or_cases, or_left, or_ri
 use Rattle.std.specs.Cmp.{signed_Decides}
 use Rattle.std.proofs.lemmas.Map.Entries.{place_from_lookup, lookup_from_place}
 use Rattle.std.proofs.lemmas.Option.{none-some, same_Some}
-use Rattle.ham_content.specs.declared.tables.Fact.{Fact}
+use Rattle.ham_content.specs.declared.tables.FactKey.{FactKey}
 use Rattle.ham_content.specs.declared.tables.Spot.{Spot}
 use Rattle.ham_content.specs.Kept.{fact, spot, same_fact, same_spot, content}
 use Rattle.ham_state.specs.Equal.{are_among, agree, same_facts, same_amounts}
@@ -33,7 +33,7 @@ all_from p [] each = refl
 all_from p (x ∷ xs) each = and_from _ _ (each 0 x refl) (all_from p xs (λ i y is. each (suc i) y is))
 
 -- ---- facts
-among : (p : Fact → Bool) (xs : List Fact) (q : Fact) → list_all p xs ≡ true → list_any (same_fact q) xs ≡ true → p q ≡ true
+among : (p : FactKey → Bool) (xs : List FactKey) (q : FactKey) → list_all p xs ≡ true → list_any (same_fact q) xs ≡ true → p q ≡ true
 among p [] q all e = absurd (true≢false (sym e))
 among p (x ∷ xs) q all e =
     let w = and_parts (p x) (list_all p xs) all in
@@ -42,7 +42,7 @@ among p (x ∷ xs) q all e =
       | inr later ↦ among p xs q w.1 later
     ]
 
-member : (xs : List Fact) (i : ℕ) (x : Fact) → slice_get xs i ≡ Some x → list_any (same_fact x) xs ≡ true
+member : (xs : List FactKey) (i : ℕ) (x : FactKey) → slice_get xs i ≡ Some x → list_any (same_fact x) xs ≡ true
 member [] i x is = absurd (none-some x is)
 member (y ∷ xs) zero x is = or_left (same_fact x y) _ (ap (same_fact x) (same_Some y x is) ∙ fact_itself x)
 member (y ∷ xs) (suc i) x is = or_right (same_fact x y) _ (member xs i x is)
@@ -80,10 +80,10 @@ agree_if amounts others unique e =
     all_from (λ (e : Spot × ℤ). int_eq (unwrap_or (hash.get same_spot others e.0) (pos 0)) e.1) amounts.entries (λ i x is.
     (signed_Decides _ x.1).1 (e x.0 ∙ ap (λ u. unwrap_or u (pos 0)) (lookup_from_place spot_laws amounts.entries i x.0 x.1 unique is)))
 
-among_if : {S T : Type 0} (facts : HashSet Fact S) (others : HashSet Fact T) → ((f : Fact) → bag.contains same_fact facts f ≡ bag.contains same_fact others f) → are_among facts others ≡ true
+among_if : {S T : Type 0} (facts : HashSet FactKey S) (others : HashSet FactKey T) → ((f : FactKey) → bag.contains same_fact facts f ≡ bag.contains same_fact others f) → are_among facts others ≡ true
 among_if facts others e = all_from (bag.contains same_fact others) facts.keys (λ i x is. sym (e x) ∙ member facts.keys i x is)
 
-module _ {S T U V : Type 0} (facts : HashSet Fact S) (amounts : HashMap Spot ℤ T) (others : HashSet Fact U) (numbers : HashMap Spot ℤ V) where
+module _ {S T U V : Type 0} (facts : HashSet FactKey S) (amounts : HashMap Spot ℤ T) (others : HashSet FactKey U) (numbers : HashMap Spot ℤ V) where
   one_content : (same_facts facts others && same_amounts amounts numbers) ≡ true → content facts amounts ≡ content others numbers
   one_content e =
       let w = and_parts (same_facts facts others) (same_amounts amounts numbers) e in
@@ -101,7 +101,7 @@ module _ {S T U V : Type 0} (facts : HashSet Fact S) (amounts : HashMap Spot ℤ
   content_is unique apart b is = (
     λ e. one_content (sym is ∙ e),
     λ e.
-        let there : (f : Fact) → bag.contains same_fact facts f ≡ bag.contains same_fact others f = λ f. sym (has-content facts amounts f.relation f.row) ∙ ap (λ s. has s f.relation f.row) e ∙ has-content others numbers f.relation f.row in
+        let there : (f : FactKey) → bag.contains same_fact facts f ≡ bag.contains same_fact others f = λ f. sym (has-content facts amounts f.relation f.row) ∙ ap (λ s. has s f.relation f.row) e ∙ has-content others numbers f.relation f.row in
         let number : (s : Spot) → unwrap_or (hash.get same_spot amounts s) (pos 0) ≡ unwrap_or (hash.get same_spot numbers s) (pos 0) = λ s. sym (value-content facts amounts s.counter s.key) ∙ ap (λ z. value z s.counter s.key) e ∙ value-content others numbers s.counter s.key in
         is ∙ and_from (same_facts facts others) (same_amounts amounts numbers)
         (and_from (are_among facts others) (are_among others facts) (among_if facts others there) (among_if others facts (λ f. sym (there f))))

@@ -6,7 +6,7 @@ use Rattle.std.specs.HashMap.{HashMap}
 use Rattle.std.specs.HashSet.{HashSet}
 use Rattle.ham_steps.specs.declared.step.Step.{Step}
 use Rattle.ham_steps.specs.Steps.{after_steps}
-use Rattle.ham_content.specs.declared.tables.Fact.{Fact}
+use Rattle.ham_content.specs.declared.tables.FactKey.{FactKey}
 use Rattle.ham_content.specs.declared.tables.Spot.{Spot}
 use Rattle.ham_content.specs.Kept.{content}
 use Rattle.ham_state.specs.Ahead.{is_sound_after, spots_pass}
@@ -33,7 +33,7 @@ tally_found s ws i w k all e = (all i w e).tallied k ∙ sym (ap (λ o. tally_at
 pub broken_found : (s : State) (ws : List Watch) (i : ℕ) (w : Watch) → AreWatches s ws → slice_get ws i ≡ Some w → bag.IsUnique same w.broken → IsNumber (is_broken_at s (slice_get (map (λ (v : Watch). v.invariant) ws) i)) (bag.hash_set_len w.broken)
 broken_found s ws i w all e unique = record { those = w.broken.keys; apart = unique; all = λ k. (all i w e).marked k ∙ sym (ap (λ o. is_broken_at s o k) (its_invariant ws i w e)); many = refl }
 
-pub holds_found : {S T : Type 0} (facts : HashSet Fact S) (amounts : HashMap Spot ℤ T) (net : List Step) (ws : List Watch) (i : ℕ) (w : Watch) (b : Bool) → AreWatches (content facts amounts) ws → slice_get ws i ≡ Some w → b ≡ (list_all (is_sound_after (content facts amounts) w.invariant net) w.broken.keys && list_all (spots_pass (is_sound_after (content facts amounts) w.invariant net) w.invariant facts.keys) net) → b ≡ true ↔ HoldsBy (after_steps net (content facts amounts)) (slice_get (map (λ (v : Watch). v.invariant) ws) i)
+pub holds_found : {S T : Type 0} (facts : HashSet FactKey S) (amounts : HashMap Spot ℤ T) (net : List Step) (ws : List Watch) (i : ℕ) (w : Watch) (b : Bool) → AreWatches (content facts amounts) ws → slice_get ws i ≡ Some w → b ≡ (list_all (is_sound_after (content facts amounts) w.invariant net) w.broken.keys && list_all (spots_pass (is_sound_after (content facts amounts) w.invariant net) w.invariant facts.keys) net) → b ≡ true ↔ HoldsBy (after_steps net (content facts amounts)) (slice_get (map (λ (v : Watch). v.invariant) ws) i)
 holds_found facts amounts net ws i w b all e is =
     let both = exactly net (content facts amounts) w.invariant facts.keys w.broken.keys (has-content facts amounts) ((all i w e).marked) in
     let held = holds_exactly (after_steps net (content facts amounts)) w.invariant in

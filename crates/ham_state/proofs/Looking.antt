@@ -18,7 +18,7 @@ use Rattle.ham_steps.specs.Content.{State, has}
 use Rattle.ham_steps.specs.Steps.{after_steps}
 use Rattle.ham_steps.specs.Touch.{touches, puts, last_touch, gain, gains}
 use Rattle.ham_steps.proofs.ContentLaws.{is_row-same, is_row-itself, same_tests}
-use Rattle.ham_content.specs.declared.tables.Fact.{Fact}
+use Rattle.ham_content.specs.declared.tables.FactKey.{FactKey}
 use Rattle.ham_content.specs.Kept.{fact, same_fact}
 use Rattle.ham_content.specs.Counted.{at_columns, tally}
 use Rattle.ham_watch.specs.Broken.{is_broken}
@@ -80,7 +80,7 @@ last_insert test r columns x (st ∷ net) all e =
     ] refl e
 
 -- ---- a row that is there and that a step deletes is asked for
-all_facts : (test : List ℕ → Bool) (r : ℕ) (p : List ℕ → Bool) (k : List ℕ) (facts : List Fact) → list_all (λ f. not ((f.relation == r) && p f.row) || test f.row) facts ≡ true → list_any (same_fact (fact r k)) facts ≡ true → p k ≡ true → test k ≡ true
+all_facts : (test : List ℕ → Bool) (r : ℕ) (p : List ℕ → Bool) (k : List ℕ) (facts : List FactKey) → list_all (λ f. not ((f.relation == r) && p f.row) || test f.row) facts ≡ true → list_any (same_fact (fact r k)) facts ≡ true → p k ≡ true → test k ≡ true
 all_facts test r p k [] all e h = absurd (true≢false (sym e))
 all_facts test r p k (f ∷ fs) all e h =
     let w = and_parts (not ((f.relation == r) && p f.row) || test f.row) (list_all (λ g. not ((g.relation == r) && p g.row) || test g.row) fs) all in
@@ -92,14 +92,14 @@ all_facts test r p k (f ∷ fs) all e h =
       | inr later ↦ all_facts test r p k fs w.1 later h
     ]
 
-one_delete : (test : List ℕ → Bool) (r : ℕ) (facts : List Fact) (k : List ℕ) (st : Step) → delete_passes test r facts st ≡ true → list_any (same_fact (fact r k)) facts ≡ true → touches st r k ≡ true → puts st ≡ false → test k ≡ true
+one_delete : (test : List ℕ → Bool) (r : ℕ) (facts : List FactKey) (k : List ℕ) (st : Step) → delete_passes test r facts st ≡ true → list_any (same_fact (fact r k)) facts ≡ true → touches st r k ≡ true → puts st ≡ false → test k ≡ true
 one_delete test r facts k (steps.Insert q row) all here t up = absurd (true≢false up)
 one_delete test r facts k (steps.Delete q pattern) all here t up =
     let w = and_parts (q == r) (matches pattern k) t in
     all_facts test r (matches pattern) k facts (where_true (q == r) (list_all (λ f. not ((f.relation == r) && matches pattern f.row) || test f.row) facts) all w.0) here w.1
 one_delete test r facts k (steps.Change c j by) all here t up = absurd (both_ways false refl t)
 
-pub last_delete : (test : List ℕ → Bool) (r : ℕ) (facts : List Fact) (k : List ℕ) (net : List Step) → list_all (delete_passes test r facts) net ≡ true → list_any (same_fact (fact r k)) facts ≡ true → last_touch net r k ≡ Some false → test k ≡ true
+pub last_delete : (test : List ℕ → Bool) (r : ℕ) (facts : List FactKey) (k : List ℕ) (net : List Step) → list_all (delete_passes test r facts) net ≡ true → list_any (same_fact (fact r k)) facts ≡ true → last_touch net r k ≡ Some false → test k ≡ true
 last_delete test r facts k [] all here e = absurd (none-some false e)
 last_delete test r facts k (st ∷ net) all here e =
     let w = and_parts (delete_passes test r facts st) (list_all (delete_passes test r facts) net) all in
@@ -109,7 +109,7 @@ last_delete test r facts k (st ∷ net) all here e =
     ] refl e
 
 -- a pattern of constants matches one fact at most
-one_if : (test : List ℕ → Bool) (r : ℕ) (row : List ℕ) (facts : List Fact) → (list_any (same_fact (fact r row)) facts ≡ true → test row ≡ true) → list_all (λ f. not ((f.relation == r) && is_row row f.row) || test f.row) facts ≡ true
+one_if : (test : List ℕ → Bool) (r : ℕ) (row : List ℕ) (facts : List FactKey) → (list_any (same_fact (fact r row)) facts ≡ true → test row ≡ true) → list_all (λ f. not ((f.relation == r) && is_row row f.row) || test f.row) facts ≡ true
 one_if test r row [] h = refl
 one_if test r row (f ∷ fs) h =
     and_from (not ((f.relation == r) && is_row row f.row) || test f.row) (list_all (λ g. not ((g.relation == r) && is_row row g.row) || test g.row) fs)
@@ -123,7 +123,7 @@ one_if test r row (f ∷ fs) h =
         or_right (not ((f.relation == r) && is_row row f.row)) (test f.row) (ap test (sym (is_row-same row f.row w.1)) ∙ h (or_left (same_fact (fact r row) f) (list_any (same_fact (fact r row)) fs) it))
     head (inr other) = or_left (not ((f.relation == r) && is_row row f.row)) (test f.row) (ap not other)
 
-pub one_match : (test : List ℕ → Bool) (r : ℕ) (row : List ℕ) (pattern : List Term) (facts : List Fact) → map Const row ≡ pattern → (not (list_any (same_fact (fact r row)) facts) || test row) ≡ list_all (λ f. not ((f.relation == r) && matches pattern f.row) || test f.row) facts
+pub one_match : (test : List ℕ → Bool) (r : ℕ) (row : List ℕ) (pattern : List Term) (facts : List FactKey) → map Const row ≡ pattern → (not (list_any (same_fact (fact r row)) facts) || test row) ≡ list_all (λ f. not ((f.relation == r) && matches pattern f.row) || test f.row) facts
 one_match test r row pattern facts is =
     same_tests _ _
     (λ e. one_if test r row facts (λ h. where_true (list_any (same_fact (fact r row)) facts) (test row) e h))
@@ -169,7 +169,7 @@ some_change test c k net all ne =
     ]
 
 -- ---- what breaks newly is asked for
-pub asked : (test : List ℕ → Bool) (net : List Step) (s : State) (v : Invariant) (facts : List Fact) → ((r : ℕ) (x : List ℕ) → has s r x ≡ list_any (same_fact (fact r x)) facts) → list_all (spots_pass test v facts) net ≡ true → (k : List ℕ) → is_broken s v k ≡ false → is_broken (after_steps net s) v k ≡ true → test k ≡ true
+pub asked : (test : List ℕ → Bool) (net : List Step) (s : State) (v : Invariant) (facts : List FactKey) → ((r : ℕ) (x : List ℕ) → has s r x ≡ list_any (same_fact (fact r x)) facts) → list_all (spots_pass test v facts) net ≡ true → (k : List ℕ) → is_broken s v k ≡ false → is_broken (after_steps net s) v k ≡ true → test k ≡ true
 asked test net s (invariants.Reference from columns to) facts kept all k was now =
     let w = all_left (insert_passes test from columns) (delete_passes test to facts) net all in
     elim (newly_referred (at_columns columns) (has s from) (has (after_steps net s) from) (has s to) (has (after_steps net s) to) k (tally s from columns k) (tally (after_steps net s) from columns k) (number-tally s from columns k) (number-tally (after_steps net s) from columns k) was now) [
@@ -187,7 +187,7 @@ asked test net s (invariants.High c limit) facts kept all (k ∷ []) was now = s
 asked test net s (invariants.High c limit) facts kept all (k ∷ j ∷ ks) was now = absurd (true≢false (sym now))
 
 -- ---- the two questions, exactly
-spots_ok : (test : List ℕ → Bool) (v : Invariant) (facts : List Fact) → ((k : List ℕ) → test k ≡ true) → (st : Step) → spots_pass test v facts st ≡ true
+spots_ok : (test : List ℕ → Bool) (v : Invariant) (facts : List FactKey) → ((k : List ℕ) → test k ≡ true) → (st : Step) → spots_pass test v facts st ≡ true
 spots_ok test (invariants.Reference from columns to) facts each st = and_from (insert_passes test from columns st) (delete_passes test to facts st) (inserts st) (deletes st)
   where
     inserts : (st : Step) → insert_passes test from columns st ≡ true
@@ -209,7 +209,7 @@ spots_ok test (invariants.High c limit) facts each (steps.Insert q row) = refl
 spots_ok test (invariants.High c limit) facts each (steps.Delete q pattern) = refl
 spots_ok test (invariants.High c limit) facts each (steps.Change d k by) = or_right (not (d == c)) _ (each (k ∷ []))
 
-pub exactly : (net : List Step) (s : State) (v : Invariant) (facts : List Fact) (broken : List (List ℕ)) → ((r : ℕ) (x : List ℕ) → has s r x ≡ list_any (same_fact (fact r x)) facts) → ((k : List ℕ) → list_any (same k) broken ≡ is_broken s v k) →
+pub exactly : (net : List Step) (s : State) (v : Invariant) (facts : List FactKey) (broken : List (List ℕ)) → ((r : ℕ) (x : List ℕ) → has s r x ≡ list_any (same_fact (fact r x)) facts) → ((k : List ℕ) → list_any (same k) broken ≡ is_broken s v k) →
     (list_all (is_sound_after s v net) broken && list_all (spots_pass (is_sound_after s v net) v facts) net) ≡ true ↔ ((k : List ℕ) → is_broken (after_steps net s) v k ≡ false)
 exactly net s v facts broken kept marked = (
   λ e k. let w = and_parts (list_all (is_sound_after s v net) broken) (list_all (spots_pass (is_sound_after s v net) v facts) net) e in by k w.0 w.1 (is_broken s v k) refl (is_broken (after_steps net s) v k) refl,

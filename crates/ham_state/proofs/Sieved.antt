@@ -10,7 +10,7 @@ use Rattle.ham_content.specs.Numbers.{same}
 use Rattle.ham_content.specs.Counted.{at_columns}
 use Rattle.ham_content.specs.Kept.{fact, same_fact, content}
 use Rattle.ham_content.specs.declared.sieve.Sieve.{Sieve}
-use Rattle.ham_content.specs.declared.tables.Fact.{Fact}
+use Rattle.ham_content.specs.declared.tables.FactKey.{FactKey}
 use Rattle.ham_content.specs.declared.tables.Spot.{Spot}
 use Rattle.ham_content.proofs.Numbers.{alike}
 use Rattle.ham_content.proofs.Contents.{has-content}
@@ -19,14 +19,14 @@ use Rattle.ham_content.proofs.Matched.{fact_itself}
 use Rattle.ham_state.specs.Ahead.{is_elsewhere}
 
 -- ---- tests of all facts
-each_member : (t : Fact → Bool) (fs : List Fact) → ((f : Fact) → list_any (same_fact f) fs ≡ true → t f ≡ true) → list_all t fs ≡ true
+each_member : (t : FactKey → Bool) (fs : List FactKey) → ((f : FactKey) → list_any (same_fact f) fs ≡ true → t f ≡ true) → list_all t fs ≡ true
 each_member t [] each = refl
 each_member t (f ∷ fs) each =
     and_from (t f) (list_all t fs)
     (each f (or_left (same_fact f f) (list_any (same_fact f) fs) (fact_itself f)))
     (each_member t fs (λ g h. each g (or_right (same_fact g f) (list_any (same_fact g) fs) h)))
 
-of_member : (t : Fact → Bool) (fs : List Fact) (g : Fact) → list_all t fs ≡ true → list_any (same_fact g) fs ≡ true → t g ≡ true
+of_member : (t : FactKey → Bool) (fs : List FactKey) (g : FactKey) → list_all t fs ≡ true → list_any (same_fact g) fs ≡ true → t g ≡ true
 of_member t [] g all e = absurd (true≢false (sym e))
 of_member t (f ∷ fs) g all e =
     let w = and_parts (t f) (list_all t fs) all in
@@ -42,18 +42,18 @@ none_by (Some x) true e = absurd (true≢false e)
 none_by (Some x) false e = refl
 
 -- what a search in a sieve for a row that fails the test answers
-abbrev pub FailingAt : {S T : Type 0} → HashSet Fact S → HashMap Spot ℤ T → Sieve → List ℕ → (List ℕ → Bool) → Option (List ℕ) → Type 0
+abbrev pub FailingAt : {S T : Type 0} → HashSet FactKey S → HashMap Spot ℤ T → Sieve → List ℕ → (List ℕ → Bool) → Option (List ℕ) → Type 0
 FailingAt facts amounts v key q o =
     MatchOption o ((x : List ℕ) → has (content facts amounts) v.relation x ≡ true → at_columns v.columns x ≡ key → q x ≡ true)
     (λ row. (has (content facts amounts) v.relation row ≡ true) × (at_columns v.columns row ≡ key) × (q row ≡ false))
 
-module _ {S T : Type 0} (facts : HashSet Fact S) (amounts : HashMap Spot ℤ T) (v : Sieve) (r : ℕ) (key : List ℕ) (relation : v.relation ≡ r) where
+module _ {S T : Type 0} (facts : HashSet FactKey S) (amounts : HashMap Spot ℤ T) (v : Sieve) (r : ℕ) (key : List ℕ) (relation : v.relation ≡ r) where
   -- a test of facts that is q at the key, and that all others pass
-  by_sieve : (t : Fact → Bool) (q : List ℕ → Bool) (o : Option (List ℕ)) → ((x : List ℕ) → t (fact r x) ≡ q x) → ((f : Fact) → (f.relation ≡ r → at_columns v.columns f.row ≡ key → ⊥) → t f ≡ true)
+  by_sieve : (t : FactKey → Bool) (q : List ℕ → Bool) (o : Option (List ℕ)) → ((x : List ℕ) → t (fact r x) ≡ q x) → ((f : FactKey) → (f.relation ≡ r → at_columns v.columns f.row ≡ key → ⊥) → t f ≡ true)
       → FailingAt facts amounts v key q o → is_none o ≡ list_all t facts.keys
   by_sieve t q None here other none = sym (each_member t facts.keys (λ f member. at f member (cases_Bool ((f.relation == r) && same (at_columns v.columns f.row) key))))
     where
-      at : (f : Fact) → list_any (same_fact f) facts.keys ≡ true → (((f.relation == r) && same (at_columns v.columns f.row) key) ≡ true) ⊎ (((f.relation == r) && same (at_columns v.columns f.row) key) ≡ false) → t f ≡ true
+      at : (f : FactKey) → list_any (same_fact f) facts.keys ≡ true → (((f.relation == r) && same (at_columns v.columns f.row) key) ≡ true) ⊎ (((f.relation == r) && same (at_columns v.columns f.row) key) ≡ false) → t f ≡ true
       at f member (inl e) =
           let w = and_parts (f.relation == r) (same (at_columns v.columns f.row) key) e in
           let is : f.relation ≡ r = eqb-true f.relation r w.0 in
@@ -72,7 +72,7 @@ module _ {S T : Type 0} (facts : HashSet Fact S) (amounts : HashMap Spot ℤ T) 
   kept_by_sieve columns p o same_columns elsewhere found =
       by_sieve (λ f. not (f.relation == r) || p f.row) p o (λ x. ap (λ b. not b || p x) (eq-eqb r r refl)) (λ f away. beside f away (cases_Bool (f.relation == r)) (cases_Bool (same (at_columns columns f.row) key))) found
     where
-      beside : (f : Fact) → (f.relation ≡ r → at_columns v.columns f.row ≡ key → ⊥) → ((f.relation == r) ≡ true) ⊎ ((f.relation == r) ≡ false) → (same (at_columns columns f.row) key ≡ true) ⊎ (same (at_columns columns f.row) key ≡ false) → (not (f.relation == r) || p f.row) ≡ true
+      beside : (f : FactKey) → (f.relation ≡ r → at_columns v.columns f.row ≡ key → ⊥) → ((f.relation == r) ≡ true) ⊎ ((f.relation == r) ≡ false) → (same (at_columns columns f.row) key ≡ true) ⊎ (same (at_columns columns f.row) key ≡ false) → (not (f.relation == r) || p f.row) ≡ true
       beside f away (inr e) at = ap (λ b. not b || p f.row) e
       beside f away (inl e) (inl at) = absurd (away (eqb-true f.relation r e) (ap (λ cs. at_columns cs f.row) same_columns ∙ alike (at_columns columns f.row) key at))
       beside f away (inl e) (inr at) = or_right (not (f.relation == r)) (p f.row) (elsewhere f.row (ap not at))
@@ -83,6 +83,6 @@ module _ {S T : Type 0} (facts : HashSet Fact S) (amounts : HashMap Spot ℤ T) 
   matched_by_sieve m p o said found =
       by_sieve (λ f. not ((f.relation == r) && m f.row) || p f.row) (λ x. not (m x) || p x) o (λ x. ap (λ b. not (b && m x) || p x) (eq-eqb r r refl)) (λ f away. beside f away (cases_Bool ((f.relation == r) && m f.row))) found
     where
-      beside : (f : Fact) → (f.relation ≡ r → at_columns v.columns f.row ≡ key → ⊥) → (((f.relation == r) && m f.row) ≡ true) ⊎ (((f.relation == r) && m f.row) ≡ false) → (not ((f.relation == r) && m f.row) || p f.row) ≡ true
+      beside : (f : FactKey) → (f.relation ≡ r → at_columns v.columns f.row ≡ key → ⊥) → (((f.relation == r) && m f.row) ≡ true) ⊎ (((f.relation == r) && m f.row) ≡ false) → (not ((f.relation == r) && m f.row) || p f.row) ≡ true
       beside f away (inl e) = let w = and_parts (f.relation == r) (m f.row) e in absurd (away (eqb-true f.relation r w.0) (said f.row w.1))
       beside f away (inr e) = ap (λ b. not b || p f.row) e

@@ -17,7 +17,7 @@ use Rattle.ham_steps.specs.Steps.{after_steps}
 use Rattle.ham_steps.specs.Touch.{touches, puts, last_touch}
 use Rattle.ham_steps.proofs.ContentLaws.{all_rows, rows_all, same_tests, is_row-same, has-without_rows}
 use Rattle.ham_steps.proofs.LastTouch.{has-after_steps}
-use Rattle.ham_content.specs.declared.tables.Fact.{Fact}
+use Rattle.ham_content.specs.declared.tables.FactKey.{FactKey}
 use Rattle.ham_content.specs.declared.tables.Spot.{Spot}
 use Rattle.ham_content.specs.Kept.{fact, same_fact, content}
 use Rattle.ham_content.specs.Counted.{at_columns, tally}
@@ -45,7 +45,7 @@ last_put test r x (st ∷ net) all e =
       | None ↦ λ _ e. let v = cond_some (touches st r x) (puts st) true e in one_put test r x st w.0 v.0 v.1
     ] refl e
 
-one_fact : (test : List ℕ → Bool) (r : ℕ) (x : List ℕ) (facts : List Fact) → list_all (λ f. not (f.relation == r) || test f.row) facts ≡ true → list_any (same_fact (fact r x)) facts ≡ true → test x ≡ true
+one_fact : (test : List ℕ → Bool) (r : ℕ) (x : List ℕ) (facts : List FactKey) → list_all (λ f. not (f.relation == r) || test f.row) facts ≡ true → list_any (same_fact (fact r x)) facts ≡ true → test x ≡ true
 one_fact test r x [] all e = absurd (true≢false (sym e))
 one_fact test r x (f ∷ fs) all e =
     let w = and_parts (not (f.relation == r) || test f.row) (list_all (λ g. not (g.relation == r) || test g.row) fs) all in
@@ -61,7 +61,7 @@ puts_ok test r each (steps.Insert q row) = or_right (not (q == r)) (test row) (e
 puts_ok test r each (steps.Delete q pattern) = refl
 puts_ok test r each (steps.Change c k by) = refl
 
-pub all_after : {S T : Type 0} (facts : HashSet Fact S) (amounts : HashMap Spot ℤ T) (net : List Step) (r : ℕ) (p : List ℕ → Bool) →
+pub all_after : {S T : Type 0} (facts : HashSet FactKey S) (amounts : HashMap Spot ℤ T) (net : List Step) (r : ℕ) (p : List ℕ → Bool) →
     (list_all (λ f. not (f.relation == r) || unless_gone (content facts amounts) net r p f.row) facts.keys && list_all (put_passes (unless_gone (content facts amounts) net r p) r) net) ≡ list_all p (rows (after_steps net (content facts amounts)) r)
 all_after facts amounts net r p =
     same_tests _ _
@@ -83,7 +83,7 @@ all_after facts amounts net r p =
     seen kept put x None last here = one_fact (unless_gone (content facts amounts) net r p) r x facts.keys kept (sym (has-content facts amounts r x) ∙ here)
     seen kept put x (Some b) last up = last_put (unless_gone (content facts amounts) net r p) r x net put (last ∙ ap Some up)
 
-pub all_after_by : {S T : Type 0} (facts : HashSet Fact S) (amounts : HashMap Spot ℤ T) (net : List Step) (r : ℕ) (p : List ℕ → Bool) (kept put : Bool) →
+pub all_after_by : {S T : Type 0} (facts : HashSet FactKey S) (amounts : HashMap Spot ℤ T) (net : List Step) (r : ℕ) (p : List ℕ → Bool) (kept put : Bool) →
     kept ≡ list_all (λ f. not (f.relation == r) || unless_gone (content facts amounts) net r p f.row) facts.keys → put ≡ list_all (put_passes (unless_gone (content facts amounts) net r p) r) net → (kept && put) ≡ list_all p (rows (after_steps net (content facts amounts)) r)
 all_after_by facts amounts net r p kept put e f = (λ i. e i && f i) ∙ all_after facts amounts net r p
 

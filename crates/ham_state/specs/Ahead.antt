@@ -8,7 +8,7 @@ use Rattle.ham_steps.specs.declared.step.Step.TheVariants as steps
 use Rattle.ham_steps.specs.Content.{State, has}
 use Rattle.ham_steps.specs.Steps.{after_steps}
 use Rattle.ham_steps.specs.Pattern.{matches}
-use Rattle.ham_content.specs.declared.tables.Fact.{Fact}
+use Rattle.ham_content.specs.declared.tables.FactKey.{FactKey}
 use Rattle.ham_content.specs.Numbers.{same}
 use Rattle.ham_content.specs.Counted.{at_columns}
 use Rattle.ham_watch.specs.Broken.{is_broken}
@@ -24,7 +24,7 @@ insert_passes test r columns (steps.Delete q pattern) = true
 insert_passes test r columns (steps.Change c k by) = true
 
 -- each of these rows of the relation that the step deletes passes
-abbrev pub delete_passes : (List ℕ → Bool) → ℕ → List Fact → Step → Bool
+abbrev pub delete_passes : (List ℕ → Bool) → ℕ → List FactKey → Step → Bool
 delete_passes test r facts (steps.Insert q row) = true
 delete_passes test r facts (steps.Delete q pattern) = not (q == r) || list_all (λ f. not ((f.relation == r) && matches pattern f.row) || test f.row) facts
 delete_passes test r facts (steps.Change c k by) = true
@@ -36,7 +36,7 @@ change_passes test c (steps.Delete q pattern) = true
 change_passes test c (steps.Change d k by) = not (d == c) || test (k ∷ [])
 
 -- each spot that the step may newly break passes
-abbrev pub spots_pass : (List ℕ → Bool) → Invariant → List Fact → Step → Bool
+abbrev pub spots_pass : (List ℕ → Bool) → Invariant → List FactKey → Step → Bool
 spots_pass test (invariants.Reference from columns to) facts st = insert_passes test from columns st && delete_passes test to facts st
 spots_pass test (invariants.Unique r columns) facts st = insert_passes test r columns st
 spots_pass test (invariants.Low c limit) facts st = change_passes test c st

@@ -6,7 +6,7 @@ ghost use Rattle.ham_steps.specs.Steps.{after_steps};
 ghost use Rattle.ham_content.specs.Kept.{content};
 
 use ham_content::tables::has_row;
-use ham_content::{Fact, Sieve, Spot};
+use ham_content::{FactKey, Sieve, Spot};
 use ham_steps::{Row, Step, last_touch};
 use std::collections::{HashMap, HashSet};
 
@@ -14,7 +14,7 @@ use std::collections::{HashMap, HashSet};
 /// steps is looked up before they are taken, without memory.
 #[derive(Clone, Copy)]
 pub struct Ahead<'a> {
-    pub facts: &'a HashSet<Fact>,
+    pub facts: &'a HashSet<FactKey>,
     pub amounts: &'a HashMap<Spot, i128>,
     pub sieves: &'a [Sieve],
     pub steps: &'a [Step],

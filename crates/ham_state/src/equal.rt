@@ -9,11 +9,11 @@ ghost use Rattle.ham_content.specs.Kept.{same_fact, same_spot};
 ghost use Rattle.ham_state.specs.Equal as equal;
 
 use ham_content::tables::amount_at;
-use ham_content::{Fact, Spot};
+use ham_content::{FactKey, Spot};
 use std::collections::{HashMap, HashSet};
 
 /// Whether each of the facts is one of the others.
-fn are_among(facts: &HashSet<Fact>, others: &HashSet<Fact>) -> bool
+fn are_among(facts: &HashSet<FactKey>, others: &HashSet<FactKey>) -> bool
     ensures { result ≡ list_all (bag.contains same_fact others.now) facts.now.keys }
 {
     facts.iter().all(|fact| others.contains(fact))
@@ -36,7 +36,7 @@ fn agree(amounts: &HashMap<Spot, i128>, others: &HashMap<Spot, i128>) -> bool
 }
 
 /// Whether the facts of the two are the same.
-fn same_facts(facts: &HashSet<Fact>, others: &HashSet<Fact>) -> bool
+fn same_facts(facts: &HashSet<FactKey>, others: &HashSet<FactKey>) -> bool
     ensures { result ≡ equal.same_facts facts.now others.now }
 {
     are_among(facts, others) && are_among(others, facts)
@@ -51,9 +51,9 @@ fn same_amounts(amounts: &HashMap<Spot, i128>, others: &HashMap<Spot, i128>) -> 
 
 /// Whether the facts of the two are the same, and the amounts.
 pub fn is_one_content(
-    facts: &HashSet<Fact>,
+    facts: &HashSet<FactKey>,
     amounts: &HashMap<Spot, i128>,
-    other_facts: &HashSet<Fact>,
+    other_facts: &HashSet<FactKey>,
     other_amounts: &HashMap<Spot, i128>,
 ) -> bool
     ensures { result ≡ (equal.same_facts facts.now other_facts.now && equal.same_amounts amounts.now other_amounts.now) }

@@ -16,7 +16,7 @@ use crate::spot::{is_reference_sound, is_unique_sound};
 use ham_content::columns::project;
 use ham_content::search::{failing_at, key_in};
 use ham_content::tables::has;
-use ham_content::{Fact, RowTest};
+use ham_content::{FactKey, RowTest};
 use ham_steps::{Row, Step, constants, row_matches};
 use ham_syntax::limits::MAX_PARTS;
 use ham_syntax::{Cols, Invariant, Term};
@@ -111,7 +111,7 @@ impl RowTest for IsMissedOrSound<'_> {
 }
 
 /// Whether the fact, if it is one of the relation that the pattern matches, is sound after the steps as a spot.
-fn fact_passes(ahead: &Ahead, watch: &Watch, relation: u8, pattern: &[Term], fact: &Fact) -> bool
+fn fact_passes(ahead: &Ahead, watch: &Watch, relation: u8, pattern: &[Term], fact: &FactKey) -> bool
     requires watched { IsWatch (content ahead.now.facts.now ahead.now.amounts.now) watch.now }
     requires sieves { AreSieves (content ahead.now.facts.now ahead.now.amounts.now) ahead.now.sieves.now }
     requires few { length ahead.now.steps.now ≤ MAX_PARTS }

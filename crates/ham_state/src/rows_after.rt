@@ -10,7 +10,7 @@ ghost use Rattle.ham_state.specs.Ahead.{is_elsewhere, unless_gone, put_passes};
 
 use crate::ahead::{Ahead, is_there};
 use ham_content::search::failing_at;
-use ham_content::{Fact, RowTest};
+use ham_content::{FactKey, RowTest};
 use ham_steps::{Row, Step};
 use ham_syntax::Cols;
 
@@ -44,7 +44,7 @@ impl<T: RowTest> RowTest for PassesOrGone<'_, T> {
 }
 
 /// Of a fact, if it is one of the relation.
-fn fact_passes<T: RowTest>(test: &T, ahead: &Ahead, relation: u8, fact: &Fact) -> bool
+fn fact_passes<T: RowTest>(test: &T, ahead: &Ahead, relation: u8, fact: &FactKey) -> bool
     requires { T.can_pass test.now }
     ensures { result ≡ (not (fact.now.relation == relation) || unless_gone (content ahead.now.facts.now ahead.now.amounts.now) ahead.now.steps.now relation (T.test test.now) fact.now.row) }
 {

@@ -3,3 +3,4 @@ pub mod LastTouch
 pub mod Matching
 pub mod Amounts
 mod Touching
+pub mod Ascending

@@ -16,7 +16,8 @@ pub enum Step {
     Change { counter: u8, key: u64, by: i128 },
 }
 
-const NOTHING: Step = Step::Change {
+/// A change of nothing, which fills the free places of lists of steps.
+pub const NOTHING: Step = Step::Change {
     counter: 0,
     key: 0,
     by: 0,

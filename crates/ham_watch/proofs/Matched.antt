@@ -6,7 +6,7 @@ use Rattle.std.specs.HashMap.{HashMap}
 use Rattle.std.specs.HashSet as bag
 use Rattle.std.specs.HashSet.{HashSet}
 use Rattle.std.proofs.lemmas.Bool.{and_parts, and_from, true≢false}
-use Rattle.ham_content.specs.declared.tables.Fact.{Fact}
+use Rattle.ham_content.specs.declared.tables.FactKey.{FactKey}
 use Rattle.ham_content.specs.declared.tables.Spot.{Spot}
 use Rattle.ham_content.specs.Kept.{fact, same_fact, content}
 use Rattle.ham_content.proofs.Contents.{has-content}
@@ -34,7 +34,7 @@ one_first s r row p passes =
     (λ c k. value-without_rows (without_rows s r (is_row row)) r p c k ∙ value-without_rows s r (is_row row) c k ∙ sym (value-without_rows s r p c k))
 
 -- where none matches nothing goes
-pub none_matches : {S T : Type 0} (facts : HashSet Fact S) (amounts : HashMap Spot ℤ T) (r : ℕ) (p : List ℕ → Bool) → list_any (λ f. (f.relation == r) && p f.row) facts.keys ≡ false → content facts amounts ≡ without_rows (content facts amounts) r p
+pub none_matches : {S T : Type 0} (facts : HashSet FactKey S) (amounts : HashMap Spot ℤ T) (r : ℕ) (p : List ℕ → Bool) → list_any (λ f. (f.relation == r) && p f.row) facts.keys ≡ false → content facts amounts ≡ without_rows (content facts amounts) r p
 none_matches facts amounts r p none =
     same_state _ _
     (λ q x. by q x (has (content facts amounts) q x) refl ((r == q) && p x) refl ∙ sym (has-without_rows (content facts amounts) r p q x))
@@ -48,10 +48,10 @@ none_matches facts amounts r p none =
     by q x false e t h = e ∙ (λ i. sym e i && not ((r == q) && p x))
 
 -- ---- what a search answered
-pub found_is : {S : Type 0} (facts : HashSet Fact S) (r : ℕ) (p : List ℕ → Bool) (o : Option (List ℕ)) (row : List ℕ) → o ≡ Some row → FoundMatch facts r p o → (bag.contains same_fact facts (fact r row) ≡ true) × (p row ≡ true)
+pub found_is : {S : Type 0} (facts : HashSet FactKey S) (r : ℕ) (p : List ℕ → Bool) (o : Option (List ℕ)) (row : List ℕ) → o ≡ Some row → FoundMatch facts r p o → (bag.contains same_fact facts (fact r row) ≡ true) × (p row ≡ true)
 found_is facts r p o row e h = subst (FoundMatch facts r p) e h
 
-pub found_not : {S : Type 0} (facts : HashSet Fact S) (r : ℕ) (p : List ℕ → Bool) (o : Option (List ℕ)) → ((row : List ℕ) → o ≡ Some row → ⊥) → FoundMatch facts r p o → list_any (λ f. (f.relation == r) && p f.row) facts.keys ≡ false
+pub found_not : {S : Type 0} (facts : HashSet FactKey S) (r : ℕ) (p : List ℕ → Bool) (o : Option (List ℕ)) → ((row : List ℕ) → o ≡ Some row → ⊥) → FoundMatch facts r p o → list_any (λ f. (f.relation == r) && p f.row) facts.keys ≡ false
 found_not facts r p None none h = h
 found_not facts r p (Some row) none h = absurd (none row refl)
 

@@ -5,7 +5,7 @@ use Rattle.std.specs.List.{list_any}
 use Rattle.std.specs.Map.{lookup}
 use Rattle.std.specs.HashMap.{HashMap}
 use Rattle.std.specs.HashSet.{HashSet}
-use Rattle.ham_content.specs.declared.tables.Fact.{Fact}
+use Rattle.ham_content.specs.declared.tables.FactKey.{FactKey}
 use Rattle.ham_content.specs.declared.tables.Spot.{Spot}
 use Rattle.ham_content.specs.Kept.{fact, spot, same_fact, same_spot, content}
 use Rattle.ham_content.proofs.Contents.{has-content, value-content}
@@ -33,7 +33,7 @@ none_broken (invariants.High c limit) (k ∷ []) h = sym (ap (λ v. not (int_le 
 none_broken (invariants.High c limit) (k ∷ j ∷ ks) h = refl
 
 -- empty tables keep it
-pub content-empty : {S T : Type 0} (facts : HashSet Fact S) (amounts : HashMap Spot ℤ T) → facts.keys ≡ [] → amounts.entries ≡ [] → content facts amounts ≡ opening
+pub content-empty : {S T : Type 0} (facts : HashSet FactKey S) (amounts : HashMap Spot ℤ T) → facts.keys ≡ [] → amounts.entries ≡ [] → content facts amounts ≡ opening
 content-empty facts amounts f a =
     same_state _ _
     (λ q x. has-content facts amounts q x ∙ ap (list_any (same_fact (fact q x))) f ∙ sym (has-opening q x))

@@ -6,7 +6,7 @@ use Rattle.std.specs.HashMap.{HashMap}
 use Rattle.std.specs.HashSet as bag
 use Rattle.std.specs.HashSet.{HashSet}
 use Rattle.std.proofs.lemmas.Bool.{and_parts, eqb-true, true≢false}
-use Rattle.ham_content.specs.declared.tables.Fact.{Fact}
+use Rattle.ham_content.specs.declared.tables.FactKey.{FactKey}
 use Rattle.ham_content.specs.declared.tables.Spot.{Spot}
 use Rattle.ham_content.specs.declared.sieve.Sieve.{Sieve}
 use Rattle.ham_watch.specs.declared.watch.Watch.{Watch}
@@ -48,14 +48,14 @@ without-absent s r row absent = same_state s (without_rows s r (is_row row)) (λ
     by q x true e = none (has s q x) (at_one s r q row x e ∙ absent) ∙ sym (ap (λ b. has s q x && not b) e)
     by q x false e = all (has s q x) ∙ sym (ap (λ b. has s q x && not b) e)
 
-pub sound_fewer : {S T : Type 0} (facts : HashSet Fact S) (amounts : HashMap Spot ℤ T) (watches : List Watch) (sieves : List Sieve) (m n : ℕ) → m ≤ n → AreSound facts amounts watches sieves n → AreSound facts amounts watches sieves m
+pub sound_fewer : {S T : Type 0} (facts : HashSet FactKey S) (amounts : HashMap Spot ℤ T) (watches : List Watch) (sieves : List Sieve) (m n : ℕ) → m ≤ n → AreSound facts amounts watches sieves n → AreSound facts amounts watches sieves m
 sound_fewer facts amounts watches sieves m n h s =
     let f = s.room_facts in
     let a = s.room_amounts in
     record { watched = s.watched; sieved = s.sieved; room_facts = omega arith; room_amounts = omega arith; room_watches = fewer m n watches h s.room_watches; room_sieves = λ i v e. let room = s.room_sieves i v e in let a = room.0 in let b = room.1 in let c = room.2 in (omega arith, omega arith, omega arith) }
 
 -- tables that show the same keep one content
-pub content-same : {S T U V : Type 0} (facts : HashSet Fact S) (amounts : HashMap Spot ℤ T) (facts' : HashSet Fact U) (amounts' : HashMap Spot ℤ V) → ((f : Fact) → bag.contains same_fact facts' f ≡ bag.contains same_fact facts f) → ((s : Spot) → hash.get same_spot amounts' s ≡ hash.get same_spot amounts s) → content facts' amounts' ≡ content facts amounts
+pub content-same : {S T U V : Type 0} (facts : HashSet FactKey S) (amounts : HashMap Spot ℤ T) (facts' : HashSet FactKey U) (amounts' : HashMap Spot ℤ V) → ((f : FactKey) → bag.contains same_fact facts' f ≡ bag.contains same_fact facts f) → ((s : Spot) → hash.get same_spot amounts' s ≡ hash.get same_spot amounts s) → content facts' amounts' ≡ content facts amounts
 content-same facts amounts facts' amounts' f a =
     same_state _ _
     (λ q x. has-content facts' amounts' q x ∙ f (fact q x) ∙ sym (has-content facts amounts q x))

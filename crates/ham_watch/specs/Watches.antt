@@ -9,7 +9,7 @@ use Rattle.ham_syntax.specs.declared.object.Invariant.TheVariants as invariants
 use Rattle.ham_steps.specs.Content.{State}
 use Rattle.ham_content.specs.Numbers.{same}
 use Rattle.ham_content.specs.Tallies.{count}
-use Rattle.ham_content.specs.declared.tables.Fact.{Fact}
+use Rattle.ham_content.specs.declared.tables.FactKey.{FactKey}
 use Rattle.ham_content.specs.declared.tables.Spot.{Spot}
 use Rattle.ham_content.specs.declared.sieve.Sieve.{Sieve}
 use Rattle.ham_content.specs.Seats.{AreSieves, AllHaveSeats}
@@ -45,7 +45,7 @@ abbrev pub HaveRoom : ℕ → List Watch → Type 0
 HaveRoom n watches = (i : ℕ) (w : Watch) → slice_get watches i ≡ Some w → HasRoomIn n w
 
 -- what is kept beside the content is exact, and there is room
-pub record AreSound {S T : Type 0} (facts : HashSet Fact S) (amounts : HashMap Spot ℤ T) (watches : List Watch) (sieves : List Sieve) (room : ℕ) : Type 0 where
+pub record AreSound {S T : Type 0} (facts : HashSet FactKey S) (amounts : HashMap Spot ℤ T) (watches : List Watch) (sieves : List Sieve) (room : ℕ) : Type 0 where
   pub watched : AreWatches (content facts amounts) watches
   pub sieved : AreSieves (content facts amounts) sieves
   pub room_facts : room ≤ bag.spare facts

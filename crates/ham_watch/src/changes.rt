@@ -13,13 +13,13 @@ use crate::watch::Watch;
 use crate::watches::{come_all, leave_all, turn_all};
 use ham_content::sieves::{sit_all, stand_all};
 use ham_content::tables::{change, has_row, put, take, value};
-use ham_content::{Fact, Sieve, Spot};
+use ham_content::{FactKey, Sieve, Spot};
 use ham_steps::Row;
 use std::collections::{HashMap, HashSet};
 
 /// Inserts the row, for which there is room.
 pub fn put_row(
-    facts: &mut HashSet<Fact>,
+    facts: &mut HashSet<FactKey>,
     amounts: &HashMap<Spot, i128>,
     watches: &mut [Watch],
     sieves: &mut [Sieve],
@@ -43,7 +43,7 @@ pub fn put_row(
 
 /// Deletes the row. No memory is taken.
 pub fn take_row(
-    facts: &mut HashSet<Fact>,
+    facts: &mut HashSet<FactKey>,
     amounts: &HashMap<Spot, i128>,
     watches: &mut [Watch],
     sieves: &mut [Sieve],
@@ -67,7 +67,7 @@ pub fn take_row(
 
 /// Adds to the counter at the key, for which there is room.
 pub fn add(
-    facts: &HashSet<Fact>,
+    facts: &HashSet<FactKey>,
     amounts: &mut HashMap<Spot, i128>,
     watches: &mut [Watch],
     sieves: &[Sieve],

@@ -10,14 +10,14 @@ ghost use Rattle.ham_watch.specs.Watches.{AreSound};
 use crate::changes::take_row;
 use crate::watch::Watch;
 use ham_content::search::find_match;
-use ham_content::{Fact, Sieve, Spot};
+use ham_content::{FactKey, Sieve, Spot};
 use ham_steps::constants;
 use ham_syntax::Term;
 use std::collections::{HashMap, HashSet};
 
 /// Deletes the relation's rows that match the pattern, one found after the other.
 fn take_matches(
-    facts: &mut HashSet<Fact>,
+    facts: &mut HashSet<FactKey>,
     amounts: &HashMap<Spot, i128>,
     watches: &mut [Watch],
     sieves: &mut [Sieve],
@@ -39,7 +39,7 @@ fn take_matches(
 
 /// Deletes the relation's rows that match the pattern. No memory is taken.
 pub fn take_rows(
-    facts: &mut HashSet<Fact>,
+    facts: &mut HashSet<FactKey>,
     amounts: &HashMap<Spot, i128>,
     watches: &mut [Watch],
     sieves: &mut [Sieve],

@@ -15,7 +15,7 @@ use crate::watch::{lower_if, mark_if, raise_if};
 use ham_content::columns::project;
 use ham_content::tables::has_row;
 use ham_content::tally::count_at;
-use ham_content::{Fact, Spot};
+use ham_content::{FactKey, Spot};
 use ham_steps::Row;
 use ham_syntax::Cols;
 use std::collections::{HashMap, HashSet};
@@ -36,7 +36,7 @@ fn is_this(relation: u8, row: &Row, other: u8, key: &Row) -> bool
 
 /// Whether the key is there once the row has come.
 fn is_there_with(
-    facts: &HashSet<Fact>,
+    facts: &HashSet<FactKey>,
     amounts: &HashMap<Spot, i128>,
     relation: u8,
     row: Row,
@@ -54,7 +54,7 @@ fn is_there_with(
 
 /// Whether the key is there once the row has gone.
 fn is_there_without(
-    facts: &HashSet<Fact>,
+    facts: &HashSet<FactKey>,
     amounts: &HashMap<Spot, i128>,
     relation: u8,
     row: Row,
@@ -72,7 +72,7 @@ fn is_there_without(
 
 /// A row that isn't there is about to come. There is room.
 pub fn come_reference(
-    facts: &HashSet<Fact>,
+    facts: &HashSet<FactKey>,
     amounts: &HashMap<Spot, i128>,
     from: u8,
     columns: Cols,
@@ -101,7 +101,7 @@ pub fn come_reference(
 
 /// A row that is there is about to go. What becomes broken has a tally, so there is room.
 pub fn leave_reference(
-    facts: &HashSet<Fact>,
+    facts: &HashSet<FactKey>,
     amounts: &HashMap<Spot, i128>,
     from: u8,
     columns: Cols,

@@ -12,7 +12,7 @@ ghost use Rattle.ham_watch.specs.Watches.{AreSound};
 
 use crate::watch::Watch;
 use ham_content::sieves::prepare_sieves;
-use ham_content::{Fact, Sieve, Spot};
+use ham_content::{FactKey, Sieve, Spot};
 use ham_steps::Row;
 use std::alloc::AllocError;
 use std::collections::{HashMap, HashSet};
@@ -70,7 +70,7 @@ fn prepare_all(watches: &mut [Watch], steps: usize) -> Result<(), AllocError>
 
 /// Makes room in the tables.
 fn reserve_tables(
-    facts: &mut HashSet<Fact>,
+    facts: &mut HashSet<FactKey>,
     amounts: &mut HashMap<Spot, i128>,
     steps: usize,
 ) -> Result<(), AllocError>
@@ -85,7 +85,7 @@ fn reserve_tables(
 
 /// Makes room for so many steps. Nothing else changes, whatever the answer.
 pub fn prepare(
-    facts: &mut HashSet<Fact>,
+    facts: &mut HashSet<FactKey>,
     amounts: &mut HashMap<Spot, i128>,
     watches: &mut [Watch],
     sieves: &mut [Sieve],

@@ -12,14 +12,14 @@ ghost use Rattle.ham_watch.specs.Watches.{IsWatchOf, HasRoomBy};
 
 use crate::watch::{lower_if, mark_if, raise_if};
 use ham_content::columns::project;
-use ham_content::{Fact, Spot};
+use ham_content::{FactKey, Spot};
 use ham_steps::Row;
 use ham_syntax::Cols;
 use std::collections::{HashMap, HashSet};
 
 /// A row that isn't there is about to come. There is room.
 pub fn come_unique(
-    facts: &HashSet<Fact>,
+    facts: &HashSet<FactKey>,
     amounts: &HashMap<Spot, i128>,
     counts: u8,
     columns: Cols,
@@ -44,7 +44,7 @@ pub fn come_unique(
 
 /// A row that is there is about to go.
 pub fn leave_unique(
-    facts: &HashSet<Fact>,
+    facts: &HashSet<FactKey>,
     amounts: &HashMap<Spot, i128>,
     counts: u8,
     columns: Cols,

@@ -13,14 +13,14 @@ ghost use Rattle.ham_watch.specs.Watches.{IsWatch, HasRoomIn, AreWatches, HaveRo
 use crate::reference::{come_reference, leave_reference};
 use crate::unique::{come_unique, leave_unique};
 use crate::watch::{Watch, mark_if};
-use ham_content::{Fact, Spot};
+use ham_content::{FactKey, Spot};
 use ham_steps::Row;
 use ham_syntax::Invariant;
 use std::collections::{HashMap, HashSet};
 
 /// A row that isn't there is about to come. There is room.
 fn come(
-    facts: &HashSet<Fact>,
+    facts: &HashSet<FactKey>,
     amounts: &HashMap<Spot, i128>,
     watch: &mut Watch,
     relation: u8,
@@ -57,7 +57,7 @@ fn come(
 
 /// A row that is there is about to go.
 fn leave(
-    facts: &HashSet<Fact>,
+    facts: &HashSet<FactKey>,
     amounts: &HashMap<Spot, i128>,
     watch: &mut Watch,
     relation: u8,
@@ -94,7 +94,7 @@ fn leave(
 
 /// A row that isn't there is about to come. Each watch has room.
 pub fn come_all(
-    facts: &HashSet<Fact>,
+    facts: &HashSet<FactKey>,
     amounts: &HashMap<Spot, i128>,
     watches: &mut [Watch],
     relation: u8,
@@ -114,7 +114,7 @@ pub fn come_all(
 
 /// A row that is there is about to go.
 pub fn leave_all(
-    facts: &HashSet<Fact>,
+    facts: &HashSet<FactKey>,
     amounts: &HashMap<Spot, i128>,
     watches: &mut [Watch],
     relation: u8,
@@ -148,7 +148,7 @@ fn is_above(limit: i64, number: i128) -> bool
 
 /// The counter at the key is about to change by so much, to the number. There is room.
 fn turn(
-    facts: &HashSet<Fact>,
+    facts: &HashSet<FactKey>,
     amounts: &HashMap<Spot, i128>,
     watch: &mut Watch,
     counter: u8,
@@ -189,7 +189,7 @@ fn turn(
 
 /// The counter at the key is about to change by so much, to the number. Each watch has room.
 pub fn turn_all(
-    facts: &HashSet<Fact>,
+    facts: &HashSet<FactKey>,
     amounts: &HashMap<Spot, i128>,
     watches: &mut [Watch],
     counter: u8,

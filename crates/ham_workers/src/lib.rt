@@ -1,4 +1,6 @@
 //! The workers of a node: who has which port, what each does until the node is stopped, and how they run beside each other.
+//!
+//! It stands on the node's crates and starts the threads, alone of all. `ham_node_cli` calls `run_replica`.
 #![tactic(auto)]
 
 mod base;

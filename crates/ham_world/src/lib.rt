@@ -1,4 +1,7 @@
 //! Worlds: replicas of one object, the links between them, and the run that they make.
+//!
+//! It stands on replicas, on wires and on the laws of runs: what a world has done is a run, and so all that is so of runs is
+//! so of it. Replays, records and scripts each play one.
 #![tactic(auto)]
 
 mod ask;

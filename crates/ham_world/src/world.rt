@@ -50,7 +50,7 @@ impl World {
         let replicas = open::replicas(alloc, object, plan)?;
         let links = open::links(alloc)?;
         let decoders = open::decoders(alloc)?;
-        let copy = object.copy(alloc)?;
+        let copy = object.copy()?;
         Ok(World {
             parts: Parts {
                 object: copy,
