@@ -2,7 +2,7 @@ use Rattle.std.proofs.Common.{◌∙◌, ◌++◌, ◌∷◌, [], ◌||◌, ℕ,
 use Rattle.std.proofs.lemmas.List.{take_more}
 use Rattle.ham_check.specs.Faults.{has_bad_column}
 use Rattle.ham_check.proofs.Columns.{AreColumns-none, AreColumns-push, AreColumns-room, has_bad_column-step}
-use Rattle.ham_check.proofs.form.resolve_columns.Goals as goal
+use Rattle.ham_check.proofs.invariants.resolve_columns.Goals as goal
 
 pub loop-i-init : goal.loop-i-init
 loop-i-init c = record { done = c.none-resolved.ensures; good = AreColumns-none _; rest = refl }

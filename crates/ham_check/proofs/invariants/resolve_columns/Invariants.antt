@@ -1,7 +1,7 @@
 use Rattle.std.proofs.Common.{◌≡◌, [], take, drop}
 use Rattle.ham_check.specs.Faults.{has_bad_column}
 use Rattle.ham_syntax.specs.Checked.{AreColumns}
-use Rattle.ham_check.proofs.form.resolve_columns.Given as goal
+use Rattle.ham_check.proofs.invariants.resolve_columns.Given as goal
 
 abbrev pub invariant-loop-i : goal.invariant-loop-i
 invariant-loop-i l = record {

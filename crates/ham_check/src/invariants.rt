@@ -1,18 +1,17 @@
 //! Invariants, one at a time: their faults, and their names as numbers.
 
-ghost use Rattle.std.specs.Prelude.{◌≡◌, ◌≢◌, ◌<◌, ◌≤◌, ◌==◌, [], Some, length, take, drop, IfOk, IfSome, slice_get};
-ghost use Rattle.std.specs.List.{list_any, AllByRecursion};
+ghost use Rattle.std.specs.Prelude.{◌≡◌, ◌≢◌, ◌≤◌, ◌==◌, [], Some, length, IfOk};
+ghost use Rattle.std.specs.List.{list_any};
 ghost use Rattle.ham_syntax.specs.declared.object.Invariant.TheVariants as invariants;
 ghost use Rattle.ham_check.specs.declared.raw.IllKind.TheVariants as kinds;
-ghost use Rattle.ham_syntax.specs.Checked.{IsRelation};
 ghost use Rattle.ham_syntax.specs.Typed.{IsTypedInvariant};
 ghost use Rattle.ham_check.specs.Faults as faults;
 ghost use Rattle.ham_check.specs.Resolved as resolved;
 
-use crate::found::{resolve_counter, resolve_relation};
+use crate::declared::Declared;
 use crate::raw::{IllKind, RawInvariant};
-use ham_syntax::limits::{MAX_COLUMNS, MAX_COUNTERS, MAX_INVARIANTS, MAX_RELATIONS};
-use ham_syntax::{Cols, Counter, Invariant, Name, Relation};
+use ham_syntax::limits::{MAX_COLUMNS, MAX_INVARIANTS};
+use ham_syntax::{Cols, Invariant};
 
 fn is_listed(columns: &[u64], column: u64) -> bool
     ensures { result ≡ list_any (λ c. column == c) columns.now }
@@ -44,74 +43,53 @@ fn resolve_columns(width: u8, columns: &[u64]) -> Result<Cols, IllKind>
     Ok(resolved)
 }
 
-/// The columns of the relation at this place.
-pub(crate) fn width_at(relations: &[Relation], place: u8) -> u8
-    requires { AllByRecursion IsRelation relations.now }
-    ensures width { result ≡ faults.width_at relations.now place }
-    ensures few { result ≤ MAX_COLUMNS }
-{
-    match relations.get(place as usize) {
-        Some(relation) => relation.columns,
-        None => 0,
-    }
-}
-
 fn resolve_reference(
-    relations: &[Relation],
+    declared: &Declared,
     from: u8,
     columns: &[u64],
     to: u8,
 ) -> Result<Cols, IllKind>
-    requires { AllByRecursion IsRelation relations.now }
-    ensures { result ≡ faults.first_fault_or (faults.reference_kinds relations.now (Some from) columns.now (Some to)) columns.now }
+    ensures { result ≡ faults.first_fault_or (faults.reference_ills declared.now.relations.now (Some from) columns.now (Some to)) columns.now }
 {
     if from == to {
         return Err(IllKind::SelfReference);
     }
-    if columns.len() != usize::from(width_at(relations, to)) {
+    if columns.len() != usize::from(declared.width(to)) {
         return Err(IllKind::BadArity);
     }
-    resolve_columns(width_at(relations, from), columns)
+    resolve_columns(declared.width(from), columns)
 }
 
-fn resolve_unique(relations: &[Relation], relation: u8, columns: &[u64]) -> Result<Cols, IllKind>
-    requires { AllByRecursion IsRelation relations.now }
-    ensures { result ≡ faults.first_fault_or (faults.unique_kinds relations.now (Some relation) columns.now) columns.now }
+fn resolve_unique(declared: &Declared, relation: u8, columns: &[u64]) -> Result<Cols, IllKind>
+    ensures { result ≡ faults.first_fault_or (faults.unique_ills declared.now.relations.now (Some relation) columns.now) columns.now }
 {
     if columns.is_empty() {
         return Err(IllKind::BadArity);
     }
-    resolve_columns(width_at(relations, relation), columns)
+    resolve_columns(declared.width(relation), columns)
 }
 
-fn resolve_form(
-    relations: &[Relation],
-    counters: &[Counter],
-    invariant: &RawInvariant,
-) -> Result<Invariant, IllKind>
-    requires relations { length relations.now ≤ MAX_RELATIONS }
-    requires each { AllByRecursion IsRelation relations.now }
-    requires counters { length counters.now ≤ MAX_COUNTERS }
+fn resolve_form(declared: &Declared, invariant: &RawInvariant) -> Result<Invariant, IllKind>
     ensures resolved { result
         ≡ faults.first_fault_or
-        (faults.form_kinds relations.now counters.now invariant.now)
-        (resolved.resolved_invariant relations.now counters.now invariant.now) }
+        (faults.form_ills declared.now.relations.now declared.now.counters.now invariant.now)
+        (resolved.resolved_invariant declared.now.relations.now declared.now.counters.now invariant.now) }
     ensures typed { IfOk result IsTypedInvariant }
 {
     match invariant {
         RawInvariant::Reference { from, columns, to } => {
-            let from = resolve_relation(relations, counters, from)?;
-            let to = resolve_relation(relations, counters, to)?;
-            let columns = resolve_reference(relations, from, columns.items(), to)?;
+            let from = declared.relation(from)?;
+            let to = declared.relation(to)?;
+            let columns = resolve_reference(declared, from, columns.items(), to)?;
             Ok(Invariant::Reference { from, columns, to })
         }
         RawInvariant::Unique { relation, columns } => {
-            let relation = resolve_relation(relations, counters, relation)?;
-            let columns = resolve_unique(relations, relation, columns.items())?;
+            let relation = declared.relation(relation)?;
+            let columns = resolve_unique(declared, relation, columns.items())?;
             Ok(Invariant::Unique { relation, columns })
         }
         RawInvariant::Low { counter, limit } => {
-            let counter = resolve_counter(relations, counters, counter)?;
+            let counter = declared.counter(counter)?;
             if 0 < *limit {
                 return Err(IllKind::OpeningBroken);
             }
@@ -121,7 +99,7 @@ fn resolve_form(
             })
         }
         RawInvariant::High { counter, limit } => {
-            let counter = resolve_counter(relations, counters, counter)?;
+            let counter = declared.counter(counter)?;
             if *limit < 0 {
                 return Err(IllKind::OpeningBroken);
             }
@@ -134,23 +112,19 @@ fn resolve_form(
 }
 
 pub(crate) fn resolve_invariant(
-    relations: &[Relation],
-    counters: &[Counter],
+    declared: &Declared,
     before: &[RawInvariant],
     invariant: &RawInvariant,
 ) -> Result<Invariant, IllKind>
-    requires relations { length relations.now ≤ MAX_RELATIONS }
-    requires each { AllByRecursion IsRelation relations.now }
-    requires counters { length counters.now ≤ MAX_COUNTERS }
     ensures checked { result
         ≡ faults.first_fault_or
-        (faults.invariant_kinds relations.now counters.now before.now invariant.now)
-        (resolved.resolved_invariant relations.now counters.now invariant.now) }
+        (faults.invariant_ills declared.now.relations.now declared.now.counters.now before.now invariant.now)
+        (resolved.resolved_invariant declared.now.relations.now declared.now.counters.now invariant.now) }
     ensures room { IfOk result (λ _. length before.now ≢ MAX_INVARIANTS) }
     ensures typed { IfOk result IsTypedInvariant }
 {
     if before.len() == MAX_INVARIANTS {
         return Err(IllKind::TooMany);
     }
-    resolve_form(relations, counters, invariant)
+    resolve_form(declared, invariant)
 }

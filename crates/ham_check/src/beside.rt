@@ -42,11 +42,11 @@ fn names_param(params: &[Param], name: &Name) -> bool
     params.iter().any(|param| *name == param.name)
 }
 
-pub(crate) fn resolve_relation_entry(
+pub(crate) fn check_relation(
     before: &[RawRelation],
     relation: &RawRelation,
 ) -> Result<Relation, IllKind>
-    ensures checked { result ≡ faults.first_fault_or (faults.relation_kinds before.now relation.now) (faults.relation_of relation.now) }
+    ensures checked { result ≡ faults.first_fault_or (faults.relation_ills before.now relation.now) (faults.relation_of relation.now) }
     ensures room { IfOk result (λ _. length before.now ≢ MAX_RELATIONS) }
     ensures named { IfOk result (λ r. IsTrue (is_name r.name)) }
 {
@@ -70,7 +70,7 @@ pub(crate) fn check_counter(
     before: &[Counter],
     counter: &Counter,
 ) -> Result<(), IllKind>
-    ensures checked { result ≡ faults.first_fault_or (faults.counter_kinds relations.now before.now counter.now) tt }
+    ensures checked { result ≡ faults.first_fault_or (faults.counter_ills relations.now before.now counter.now) tt }
     ensures room { IfOk result (λ _. length before.now ≢ MAX_COUNTERS) }
 {
     if before.len() == MAX_COUNTERS {
@@ -92,7 +92,7 @@ fn has_twins(params: &[Param]) -> bool
 }
 
 fn check_shape(method: &RawMethod) -> Result<(), IllKind>
-    ensures checked { result ≡ faults.first_fault_or (faults.shape_kinds method.now) tt }
+    ensures checked { result ≡ faults.first_fault_or (faults.shape_ills method.now) tt }
     ensures few_params { IfOk result (λ _. length method.now.params ≤ MAX_PARAMS) }
     ensures few_guards { IfOk result (λ _. length method.now.guards ≤ MAX_PARTS) }
     ensures few_effects { IfOk result (λ _. length method.now.effects ≤ MAX_PARTS) }
@@ -113,7 +113,7 @@ fn check_shape(method: &RawMethod) -> Result<(), IllKind>
 }
 
 pub(crate) fn check_method(before: &[RawMethod], method: &RawMethod) -> Result<(), IllKind>
-    ensures checked { result ≡ faults.first_fault_or (faults.method_kinds before.now method.now) tt }
+    ensures checked { result ≡ faults.first_fault_or (faults.method_ills before.now method.now) tt }
     ensures room { IfOk result (λ _. length before.now ≢ MAX_METHODS) }
     ensures few_params { IfOk result (λ _. length method.now.params ≤ MAX_PARAMS) }
     ensures few_guards { IfOk result (λ _. length method.now.guards ≤ MAX_PARTS) }
