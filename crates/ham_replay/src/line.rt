@@ -3,7 +3,7 @@
 ghost use Rattle.std.specs.Prelude.{◌≡◌, false, IfOk};
 ghost use Rattle.ham_turns.specs.Settings.{setting_of};
 ghost use Rattle.ham_replay.specs.Replays as replays;
-ghost use Rattle.ham_replay.specs.Ends.{IsTurn};
+ghost use Rattle.ham_replay.specs.Ends.{IsLineOutcome};
 
 use crate::asking::ask;
 use crate::end::LineRefusal;
@@ -14,15 +14,15 @@ use ham_world::World;
 use std::alloc::Global;
 
 /// Takes one line: an event steps the world, a query reads it. The answers are put last, a line each.
-#[tactic(auto, unfolding(crate::specs::Replays::turn_of))]
-pub fn turn(
+#[tactic(auto, unfolding(crate::specs::Replays::line_outcome))]
+pub fn play_line(
     alloc: Global,
     world: &mut World,
     line: &[u8],
     text: &mut Bytes,
 ) -> Result<Option<LineRefusal>, NoMemory>
     requires { world.old.stopped ≡ false }
-    ensures { IfOk result (λ refused. IsTurn world.old world.new text.old text.new (replays.turn_of world.old.object (setting_of world.old.plan) world.old.notes line.now) refused) }
+    ensures { IfOk result (λ refused. IsLineOutcome world.old world.new text.old text.new (replays.line_outcome world.old.object (setting_of world.old.plan) world.old.notes line.now) refused) }
 {
     if is_skipped(line) {
         return Ok(None);

@@ -2,7 +2,7 @@ use Rattle.std.proofs.Common.{[], ◌∷◌}
 use Rattle.ham_laws.specs.Purse.{careless, take_call}
 use Rattle.ham_laws.proofs.Tiny.{purse_lawful}
 use Rattle.ham_laws.proofs.Sharpness.{careless_symmetric, coins_commute, careless_right, purse_well, take_closed, take_forbidden, take_breaks}
-use Rattle.ham_laws.proofs.sharp.free_takes_break.Goals as goal
+use Rattle.ham_laws.proofs.counterexamples.free_takes_break.Goals as goal
 
 pub returns-clause-lawful : goal.returns-clause-lawful
 returns-clause-lawful c = purse_lawful

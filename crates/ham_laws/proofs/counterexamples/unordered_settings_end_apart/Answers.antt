@@ -3,7 +3,7 @@ use Rattle.ham_laws.specs.Register.{first, second}
 use Rattle.ham_laws.proofs.Tiny.{register_lawful}
 use Rattle.ham_laws.proofs.Sharpness.{swapped}
 use Rattle.ham_laws.proofs.Sharper.{apart_settings_well, first_then_second, second_then_first, settings_end_apart}
-use Rattle.ham_laws.proofs.sharp.unordered_settings_end_apart.Goals as goal
+use Rattle.ham_laws.proofs.counterexamples.unordered_settings_end_apart.Goals as goal
 
 pub returns : goal.returns
 returns c = record {

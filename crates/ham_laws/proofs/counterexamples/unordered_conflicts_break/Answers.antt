@@ -2,7 +2,7 @@ use Rattle.ham_laws.specs.Purse.{purse}
 use Rattle.ham_laws.specs.Single.{single}
 use Rattle.ham_laws.proofs.Single.{single_sound}
 use Rattle.ham_laws.proofs.Sharper.{takes_in_order, takes_there, takes_permissible, takes_before, takes_logs, takes_forbidden, takes_break}
-use Rattle.ham_laws.proofs.sharp.unordered_conflicts_break.Goals as goal
+use Rattle.ham_laws.proofs.counterexamples.unordered_conflicts_break.Goals as goal
 
 pub returns : goal.returns
 returns c = record {

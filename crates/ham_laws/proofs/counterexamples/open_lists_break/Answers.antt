@@ -4,7 +4,7 @@ use Rattle.ham_laws.specs.Purse.{purse, put_call}
 use Rattle.ham_laws.proofs.Single.{single_sound}
 use Rattle.ham_laws.proofs.Tiny.{purse_lawful}
 use Rattle.ham_laws.proofs.Sharpness.{purse_well, take_forbidden, take_breaks}
-use Rattle.ham_laws.proofs.sharp.open_lists_break.Goals as goal
+use Rattle.ham_laws.proofs.counterexamples.open_lists_break.Goals as goal
 
 pub returns-clause-lawful : goal.returns-clause-lawful
 returns-clause-lawful c = purse_lawful

@@ -2,7 +2,7 @@ use Rattle.ham_laws.specs.Register.{register}
 use Rattle.ham_laws.proofs.Single.{single_sound}
 use Rattle.ham_laws.proofs.Tiny.{register_lawful}
 use Rattle.ham_laws.proofs.Sharpness.{settings_closed, settings_well, swapped}
-use Rattle.ham_laws.proofs.sharp.open_lists_end_apart.Goals as goal
+use Rattle.ham_laws.proofs.counterexamples.open_lists_end_apart.Goals as goal
 
 pub returns-clause-lawful : goal.returns-clause-lawful
 returns-clause-lawful c = register_lawful

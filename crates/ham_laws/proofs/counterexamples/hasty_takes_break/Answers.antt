@@ -3,7 +3,7 @@ use Rattle.ham_laws.specs.Slips.{hasty}
 use Rattle.ham_laws.proofs.Tiny.{purse_lawful}
 use Rattle.ham_laws.proofs.Sharpness.{coins_commute}
 use Rattle.ham_laws.proofs.Sharper.{hasty_left, two_takes_well, takes_closed, takes_forbidden, takes_break}
-use Rattle.ham_laws.proofs.sharp.hasty_takes_break.Goals as goal
+use Rattle.ham_laws.proofs.counterexamples.hasty_takes_break.Goals as goal
 
 pub returns : goal.returns
 returns c = record {
