@@ -3,7 +3,7 @@
 --     Heard            lines that enter these inputs, and one more that ends them, where there is one
 --     HeardTo          whole lines of what is held, read
 --     Answered         what entering them does, the text of it, and how the talk goes
-use Rattle.std.specs.Prelude.{◌≡◌, ℕ, Bool, true, false, List, [], ◌∷◌, ◌++◌, Option, Some, None, Result, Ok, Err}
+use Rattle.std.specs.Prelude.{◌≡◌, ℕ, Bool, true, false, List, [], ◌∷◌, ◌++◌, Option, Some, None, Result, Ok, Err, ⊤}
 use Rattle.std.specs.List.{flat_map}
 use Rattle.ham_syntax.specs.Objects.{Schema}
 use Rattle.ham_plan.specs.Plans.{Plan}
@@ -34,9 +34,12 @@ pub record Asks (o : Schema) (line : List ℕ) (what : Result Input Said) : Type
   pub read : IsClientReading o line reading
   pub what_is : what ≡ asked reading
 
-pub data Enter (o : Schema) : List (List ℕ) → List Input → Type 0 where
-  NoLine : Enter o [] []
-  OneMore : (lines : List (List ℕ)) (line : List ℕ) (inputs : List Input) (input : Input) → IsLine line → Asks o line (Ok input) → Enter o lines inputs → Enter o (line ∷ lines) (input ∷ inputs)
+-- lines, each of which enters its input
+abbrev pub Enter : Schema → List (List ℕ) → List Input → Type 0
+Enter o [] [] = ⊤
+Enter o (line ∷ lines) (input ∷ inputs) = IsLine line × Asks o line (Ok input) × Enter o lines inputs
+Enter o [] (input ∷ inputs) = ⊥
+Enter o (line ∷ lines) [] = ⊥
 
 -- a line that enters nothing comes last
 abbrev pub Heard : Schema → List (List ℕ) → List Input → Option Said → Type 0

@@ -1,11 +1,10 @@
-use Rattle.std.proofs.Common.{◌≡◌, ◌≤◌, ◌+◌, ◌++◌, Bool, List, Some, length}
+use Rattle.std.proofs.Common.{◌≡◌, ◌≤◌, ◌+◌, Some, length}
 use Rattle.std.specs.Prelude.{vec_capacity}
 use Rattle.std.specs.List.{AllByRecursion}
 use Rattle.ham_turns.specs.Settings.{setting_of}
-use Rattle.ham_journal.specs.declared.input.Input.{Input}
-use Rattle.ham_journal.specs.declared.input.Reply.{Reply}
 use Rattle.ham_journal.specs.Replies.{MayEnter}
-use Rattle.ham_core.specs.Each.{Standing, standing, EntersEach}
+use Rattle.ham_core.specs.Each.{standing}
+use Rattle.ham_core.proofs.Entering.{GoesOn}
 use Rattle.ham_core.proofs.each.enter_each.Given as goal
 
 abbrev pub invariant-loop-input : goal.invariant-loop-input
@@ -13,10 +12,9 @@ invariant-loop-input g l =
     record {
       may : AllByRecursion (MayEnter (setting_of g.L.Home.plan) g.L.Home.me) l.inputs.items;
       room : length l.replies.items + length l.inputs.items ≤ vec_capacity l.replies;
-      on : (s : Standing) (left : List Input) (more : List Reply) (b : Bool)
-          → EntersEach g.L.Home.object g.L.Home.plan g.L.Home.me (standing (Some l.guarded.journal) l.seat.share.amount l.tally.stops l.tally.fulls l.tally.refusals) s l.inputs.items left more b
-          → EntersEach g.L.Home.object g.L.Home.plan g.L.Home.me
-          (standing (Some l.initial.guarded.journal) l.initial.seat.share.amount l.initial.tally.stops l.initial.tally.fulls l.initial.tally.refusals) s l.initial.inputs.items left (l.replies.items ++ more) b;
+      on : GoesOn g.L.Home.object g.L.Home.plan g.L.Home.me
+          (standing (Some l.initial.guarded.journal) l.initial.seat.share.amount l.initial.tally.stops l.initial.tally.fulls l.initial.tally.refusals)
+          (standing (Some l.guarded.journal) l.seat.share.amount l.tally.stops l.tally.fulls l.tally.refusals) l.initial.inputs.items l.inputs.items l.replies.items;
       number : l.seat.number ≡ l.initial.seat.number;
     }
 
