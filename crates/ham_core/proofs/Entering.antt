@@ -1,5 +1,5 @@
 -- Inputs that are entered one after another: one more, one that is the last, and no more.
-use Rattle.std.proofs.Common.{◌≡◌, ℕ, Bool, true, false, List, [], ◌∷◌, ◌++◌, refl, sym, ap, subst, ◌∙◌, append_assoc}
+use Rattle.std.proofs.Common.{◌≡◌, ℕ, Bool, true, false, List, [], ◌∷◌, ◌++◌, length, refl, sym, ap, subst, ◌∙◌, append_assoc}
 use Rattle.std.proofs.lemmas.List.{append-nil}
 use Rattle.std.specs.List.{AllByRecursion}
 use Rattle.ham_syntax.specs.Objects.{Schema}
@@ -43,3 +43,7 @@ each_end o p m s0 s1 all now left before on en el =
 
 pub rest_may : (y : Setting) (me : ℕ) (now now' : List Input) (input : Input) → now ≡ input ∷ now' → AllByRecursion (MayEnter y me) now → AllByRecursion (MayEnter y me) now'
 rest_may y me now now' input e h = (subst (AllByRecursion (MayEnter y me)) e h).1
+
+pub none_left : (inputs : List Input) → length inputs ≡ 0 → inputs ≡ []
+none_left [] e = refl
+none_left (i ∷ inputs) e = cc

@@ -1,8 +1,8 @@
 -- Lines that were read, and what was answered to them, make a talk.
-use Rattle.std.proofs.Common.{◌≡◌, ℕ, ◌≤◌, ◌×◌, Bool, true, false, List, [], ◌∷◌, ◌++◌, Option, Some, None, refl, sym, ap, subst, ◌∙◌, ◌⊎◌, inl, inr, append_assoc, arith}
+use Rattle.std.proofs.Common.{◌≡◌, ℕ, ◌+◌, ◌≤◌, ◌<◌, length, Bool, true, false, List, [], ◌∷◌, ◌++◌, Option, Some, None, refl, sym, ap, subst, ◌∙◌, ◌⊎◌, inl, inr, append_assoc, arith}
 use Rattle.std.specs.Prelude.{Result, Ok, Err}
 use Rattle.std.specs.List.{AllByRecursion}
-use Rattle.std.proofs.lemmas.List.{append-nil}
+use Rattle.std.proofs.lemmas.List.{append-nil, length-append}
 use Rattle.std.proofs.lemmas.Option.{same_Some}
 use Rattle.ham_bytes.specs.Causes.{Rose}
 use Rattle.ham_syntax.specs.Objects.{Schema}
@@ -163,6 +163,9 @@ heard_more o held rest line after inputs inputs' i h r good a e = record {
   read = h.read ∙ ap (λ (l : List ℕ). joined h.lines ++ l) r ∙ joined_more h.lines line after;
 }
 
+pub left_more : (held rest after : List ℕ) (inputs inputs' : List Input) (i : Input) → inputs' ≡ inputs ++ i ∷ [] → length after < length rest → length rest + length inputs ≤ length held → length after + length inputs' ≤ length held
+left_more held rest after inputs inputs' i e h k = omega (arith, ap length e, length-append inputs (i ∷ []), h, k)
+
 pub heard_last : (o : Schema) (held rest line after : List ℕ) (inputs : List Input) (s : Said) → HeardTo o held inputs None rest → rest ≡ line ++ 10 ∷ after → IsLine line → Asks o line (Err s)
     → HeardTo o held inputs (Some s) after
 heard_last o held rest line after inputs s h r good a = record {
@@ -173,7 +176,7 @@ heard_last o held rest line after inputs s h r good a = record {
 
 -- ---- what was answered makes a talk
 
-way_by : Bool → Went
+abbrev way_by : Bool → Went
 way_by true = went.Stopped
 way_by false = went.On
 
@@ -227,7 +230,7 @@ none_served : (o : Schema) (p : Plan) (m : ℕ) (h h1 : Option (List Entry)) (he
 none_served o p m h h1 held rest after out out1 true served e = (after, subst (λ (t : List ℕ). Served o p m h h1 went.Stopped held after out t) (sym (append-nil out1)) served, λ w. cc)
 none_served o p m h h1 held rest after out out1 false served e = (after, subst (λ (t : List ℕ). Served o p m h h1 went.On held after out t) (sym (append-nil out1)) served, λ w. e refl)
 
-RoundServed : Schema → Plan → ℕ → Option (List Entry) → Option (List Entry) → Went → List ℕ → List ℕ → List ℕ → List ℕ → Type 0
+abbrev pub RoundServed : Schema → Plan → ℕ → Option (List Entry) → Option (List Entry) → Went → List ℕ → List ℕ → List ℕ → List ℕ → Type 0
 RoundServed o p m h h' w held rest out out' = (left : List ℕ) × Served o p m h h' w held left out out' × (w ≡ went.On → left ≡ rest)
 
 heard_served : (o : Schema) (p : Plan) (m : ℕ) (h : Option (List Entry)) (held rest out out1 : List ℕ) (s s' : Standing) (lines : List (List ℕ)) (inputs left : List Input) (last : Option Said) (rs : List Reply) (b : Bool)
@@ -245,18 +248,24 @@ heard_served o p m h held rest out out1 s s' lines inputs left (Some s1) rs b se
     last_served o p m h s'.history held rest t.0 out (out1 ++ replies_text o rs) line b s1 t.1 t.2 e.4 e.5
 
 -- a round's lines were served
-pub round_served : (o o1 : Schema) (p p1 : Plan) (m m1 : ℕ) (h : Option (List Entry)) (held before rest out out1 text : List ℕ) (s s' : Standing) (inputs : List Input) (last : Option Said) (w : Went)
-    → o1 ≡ o → p1 ≡ p → m1 ≡ m → Served o p m h s.history went.On held before out out1 → HeardTo o before inputs last rest → Answered o1 p1 m1 s s' inputs last text w
-    → RoundServed o p m h s'.history w held rest out (out1 ++ text)
-round_served o o1 p p1 m m1 h held before rest out out1 text s s' inputs last w eo ep em served heard a1 =
+pub round_served : (o o1 object : Schema) (p p1 : Plan) (m m1 : ℕ) (h : Option (List Entry)) (held before rest out out1 out2 text : List ℕ) (s s' : Standing) (inputs : List Input) (last : Option Said) (w : Went)
+    → o1 ≡ o → p1 ≡ p → m1 ≡ m → o ≡ object → Answered o1 p1 m1 s s' inputs last text w → HeardTo object before inputs last rest → Served o p m h s.history went.On held before out out1 → out2 ≡ out1 ++ text
+    → RoundServed o p m h s'.history w held rest out out2
+round_served o o1 object p p1 m m1 h held before rest out out1 out2 text s s' inputs last w eo ep em home a1 heard1 served q =
     let a = subst (λ (n : ℕ). Answered o p n s s' inputs last text w) em
         (subst (λ (q : Plan). Answered o q m1 s s' inputs last text w) ep
         (subst (λ (c : Schema). Answered c p1 m1 s s' inputs last text w) eo a1)) in
+    let heard = subst (λ (c : Schema). HeardTo c before inputs last rest) (sym home) heard1 in
     let t = heard_served o p m h held rest out out1 s s' heard.lines inputs a.left last a.replies a.stopped
         (subst (λ (x : List ℕ). Served o p m h s.history went.On held x out out1) heard.read served) heard.heard a.entered in
-    subst (λ (v : Went). RoundServed o p m h s'.history v held rest out (out1 ++ text)) (sym a.way)
+    subst (λ (v : Went). RoundServed o p m h s'.history v held rest out out2) (sym a.way)
     (subst (λ (x : List ℕ). RoundServed o p m h s'.history (last_way a.stopped last) held rest out x)
-    (append_assoc out1 (replies_text o a.replies) (last_text o a.stopped last) ∙ ap (λ (x : List ℕ). out1 ++ x) (sym a.text_is)) t)
+    (append_assoc out1 (replies_text o a.replies) (last_text o a.stopped last) ∙ ap (λ (x : List ℕ). out1 ++ x) (sym a.text_is) ∙ sym q) t)
+
+-- and the talk goes on from what stands behind them
+pub goes_on : (o : Schema) (p : Plan) (m : ℕ) (h h' : Option (List Entry)) (w : Went) (held rest out out' : List ℕ) → RoundServed o p m h h' w held rest out out' → w ≡ went.On → Served o p m h h' went.On held rest out out'
+goes_on o p m h h' w held rest out out' t e =
+    subst (λ (v : Went). Served o p m h h' v held rest out out') e (subst (λ (l : List ℕ). Served o p m h h' w held l out out') (t.2 e) t.1)
 
 way_stopped : (b : Bool) (last : Option Said) (w : Went) → w ≡ last_way b last → w ≡ went.Stopped → (b ≡ true) ⊎ ((s : Said) × (last ≡ Some s) × (way_after s ≡ went.Stopped))
 way_stopped true last w e q = inl refl

@@ -18,14 +18,14 @@ use std::collections::VecDeque;
 /// The most lines of a round, which are entered under one lock, so that nobody keeps it for long.
 const MAX_ROUND: usize = 64;
 
-/// Lines of a round: what they enter, what is said of the one that ended them, what stands behind them, and whether more may
-/// be read from that.
+/// Lines of a round: what they enter, what is said of the one that ended them, what stands behind them, and whether no
+/// whole line is left there.
 #[derive(Drop)]
 pub(crate) struct Hearing<'a> {
     pub(crate) inputs: VecDeque<Input>,
     pub(crate) last: Option<Said>,
     pub(crate) rest: &'a [u8],
-    pub(crate) more: bool,
+    pub(crate) done: bool,
 }
 
 /// What a line enters, or what is said of one that enters nothing.
@@ -53,8 +53,8 @@ pub(crate) fn hear<'a>(
     held: &'a [u8],
 ) -> Result<Hearing<'a>, NoMemory>
     ensures heard { IfOk result (λ h. HeardTo object.now held.entry.now h.inputs.items h.last h.rest.now) }
-    ensures no_end { IfOk result (λ h. h.more ≡ false → HasNoEnd (take MAX_LINE h.rest.now)) }
-    ensures shorter { IfOk result (λ h. h.more ≡ true → length h.rest.now < length held.entry.now) }
+    ensures no_end { IfOk result (λ h. h.done ≡ true → HasNoEnd (take MAX_LINE h.rest.now)) }
+    ensures shorter { IfOk result (λ h. h.done ≡ false → length h.rest.now < length held.entry.now) }
 {
     let mut inputs = VecDeque::new(alloc);
     let mut rest = held;
@@ -64,7 +64,7 @@ pub(crate) fn hear<'a>(
                 inputs,
                 last: None,
                 rest,
-                more: false,
+                done: true,
             });
         };
         rest = after;
@@ -73,7 +73,12 @@ pub(crate) fn hear<'a>(
                 let long = is_long(&input);
                 inputs.push_back(input)?;
                 if long {
-                    break;
+                    return Ok(Hearing {
+                        inputs,
+                        last: None,
+                        rest,
+                        done: false,
+                    });
                 }
             }
             Err(said) => {
@@ -81,7 +86,7 @@ pub(crate) fn hear<'a>(
                     inputs,
                     last: Some(said),
                     rest,
-                    more: true,
+                    done: false,
                 });
             }
         }
@@ -90,6 +95,6 @@ pub(crate) fn hear<'a>(
         inputs,
         last: None,
         rest,
-        more: true,
+        done: false,
     })
 }

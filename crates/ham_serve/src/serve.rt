@@ -161,12 +161,15 @@ fn serve_lines<'a, D: Door>(
             inputs,
             last,
             rest: after,
-            more,
+            done,
         } = hear(alloc, object, rest)?;
         let room = Vec::with_capacity(alloc, inputs.len())?;
         let went = serve_round(object, door, inputs, last, room, out)?;
         rest = after;
-        if went != Went::On || !more {
+        if went != Went::On {
+            return Ok((rest, went));
+        }
+        if done {
             return Ok((rest, went));
         }
     }

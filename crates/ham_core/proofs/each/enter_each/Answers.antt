@@ -1,5 +1,5 @@
-use Rattle.std.proofs.Common.{◌∙◌, refl, arith, ap, length}
-use Rattle.ham_core.proofs.Entering.{each_start, each_more, each_stop, each_end, rest_may}
+use Rattle.std.proofs.Common.{◌∙◌, refl, sym, arith, ap, length}
+use Rattle.ham_core.proofs.Entering.{each_start, each_more, each_stop, each_end, rest_may, none_left}
 use Rattle.ham_core.proofs.each.enter_each.Goals as goal
 
 pub loop-input-init : goal.loop-input-init
@@ -46,4 +46,6 @@ loop-input-preserved g c =
     }
 
 pub returns-clause-told : goal.returns-clause-told
-returns-clause-told g c = each_end _ _ _ _ _ _ _ _ _ c.loop-input.invariant.on (empty_list c.pop_front.ensures.cases) c.pop_front.ensures.rest
+returns-clause-told g c =
+    let none = none_left c.loop-input.inputs.items (omega (arith, c.in_default.ensures.cases.0, c.loop-input.inputs.ok)) in
+    each_end _ _ _ _ _ _ _ _ _ c.loop-input.invariant.on none (sym c.in_default.ensures.items ∙ none)
