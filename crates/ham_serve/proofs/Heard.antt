@@ -3,7 +3,6 @@ use Rattle.std.proofs.Common.{◌≡◌, ℕ, ◌+◌, ◌≤◌, ◌<◌, lengt
 use Rattle.std.specs.Prelude.{Result, Ok, Err}
 use Rattle.std.specs.List.{AllByRecursion}
 use Rattle.std.proofs.lemmas.List.{append-nil, length-append}
-use Rattle.std.proofs.lemmas.Option.{same_Some}
 use Rattle.ham_bytes.specs.Causes.{Rose}
 use Rattle.ham_syntax.specs.Objects.{Schema}
 use Rattle.ham_plan.specs.Plans.{Plan}
@@ -25,7 +24,7 @@ use Rattle.ham_serve.specs.Lines.{IsLine, joined}
 use Rattle.ham_serve.specs.Texts.{input_by, said_text, way_of}
 use Rattle.ham_serve.specs.Talks.{Tells_to, TellsRead, TellsInput, Served}
 use Rattle.ham_serve.specs.Hearing.{asked, asked_by, Asks, Enter, Heard, HeardTo, way_after, last_text, last_way, replies_text, Answered}
-use Rattle.ham_serve.proofs.Talks.{serving_more, joined_append, joined_more}
+use Rattle.ham_serve.proofs.Talks.{serving_more, joined_more}
 use Rattle.ham_serve.proofs.Telling.{may_enter}
 
 -- ---- ways and stops
@@ -243,7 +242,7 @@ heard_served o p m h held rest out out1 s s' lines inputs left (Some s1) rs b se
     let front = e.0 in
     let line = e.1 in
     let at : joined lines ++ rest ≡ joined front ++ (line ++ 10 ∷ rest) =
-        ap (λ (ls : List (List ℕ)). joined ls ++ rest) e.2 ∙ sym (joined_more front line rest) in
+    ap (λ (ls : List (List ℕ)). joined ls ++ rest) e.2 ∙ sym (joined_more front line rest) in
     let t = entered_served o p m h held (line ++ 10 ∷ rest) out out1 s s' front inputs left rs b (subst (λ (x : List ℕ). Served o p m h s.history went.On held x out out1) at served) e.3 each in
     last_served o p m h s'.history held rest t.0 out (out1 ++ replies_text o rs) line b s1 t.1 t.2 e.4 e.5
 
@@ -253,11 +252,11 @@ pub round_served : (o o1 object : Schema) (p p1 : Plan) (m m1 : ℕ) (h : Option
     → RoundServed o p m h s'.history w held rest out out2
 round_served o o1 object p p1 m m1 h held before rest out out1 out2 text s s' inputs last w eo ep em home a1 heard1 served q =
     let a = subst (λ (n : ℕ). Answered o p n s s' inputs last text w) em
-        (subst (λ (q : Plan). Answered o q m1 s s' inputs last text w) ep
-        (subst (λ (c : Schema). Answered c p1 m1 s s' inputs last text w) eo a1)) in
+    (subst (λ (q : Plan). Answered o q m1 s s' inputs last text w) ep
+    (subst (λ (c : Schema). Answered c p1 m1 s s' inputs last text w) eo a1)) in
     let heard = subst (λ (c : Schema). HeardTo c before inputs last rest) (sym home) heard1 in
     let t = heard_served o p m h held rest out out1 s s' heard.lines inputs a.left last a.replies a.stopped
-        (subst (λ (x : List ℕ). Served o p m h s.history went.On held x out out1) heard.read served) heard.heard a.entered in
+    (subst (λ (x : List ℕ). Served o p m h s.history went.On held x out out1) heard.read served) heard.heard a.entered in
     subst (λ (v : Went). RoundServed o p m h s'.history v held rest out out2) (sym a.way)
     (subst (λ (x : List ℕ). RoundServed o p m h s'.history (last_way a.stopped last) held rest out x)
     (append_assoc out1 (replies_text o a.replies) (last_text o a.stopped last) ∙ ap (λ (x : List ℕ). out1 ++ x) (sym a.text_is) ∙ sym q) t)
@@ -304,7 +303,6 @@ round_stopped o o1 p1 m1 before rest text s s' inputs last w heard a q = by_way 
 
 pub round_later : (o : Schema) (p : Plan) (m : ℕ) (s s' : Standing) (inputs : List Input) (last : Option Said) (text : List ℕ) (w : Went) → Answered o p m s s' inputs last text w → s.stops ≤ s'.stops
 round_later o p m s s' inputs last text w a = each_later o p m s s' inputs a.left a.replies a.stopped a.entered
-
 
 -- ---- how a round was answered
 

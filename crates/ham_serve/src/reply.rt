@@ -62,7 +62,11 @@ pub(crate) fn push_said(text: &mut Bytes, object: &Object, said: Said) -> Result
 }
 
 /// Puts the lines of replies last, in order.
-pub(crate) fn push_replies(text: &mut Bytes, object: &Object, replies: &[Reply]) -> Result<(), NoMemory>
+pub(crate) fn push_replies(
+    text: &mut Bytes,
+    object: &Object,
+    replies: &[Reply],
+) -> Result<(), NoMemory>
     ensures { OnOk result (text.new ≡ text.old ++ replies_text object.now replies.now) }
 {
     for reply in replies {

@@ -1,7 +1,6 @@
-use Rattle.std.proofs.Common.{◌++◌, ◌∙◌, [], refl, subst, ap, List, ℕ, arith}
+use Rattle.std.proofs.Common.{◌++◌, [], refl, subst, arith}
 use Rattle.ham_serve.specs.Talks.{Silent, Talk}
 use Rattle.ham_links.proofs.Sending.{goes_none}
-use Rattle.ham_serve.specs.Lines.{joined}
 use Rattle.ham_serve.specs.declared.serve.Went.TheVariants as went
 use Rattle.ham_serve.specs.declared.serve.Went.{Went}
 use Rattle.ham_serve.proofs.Ends.{held_line}
