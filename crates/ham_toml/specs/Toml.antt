@@ -1,6 +1,8 @@
 -- Objects in TOML: what a document's table says, key by key in the listed order, up to the first fault.
 use Rattle.std.specs.Prelude.{ℕ, ℤ, pos, negsuc, ◌==◌, Bool, false, List, [], ◌∷◌, codes, Option, Some, None, option_map, option_and_then, Result, Ok, Err, if◌then◌else◌}
 use Rattle.std.specs.List.{list_any}
+use Rattle.std.specs.Ordering.{nat_cmp, is_lt}
+use Rattle.std.specs.Cmp.Lexicographic.{slice_cmp}
 use Rattle.std.specs.Str.{bytes_eq, is_utf8}
 use Rattle.std.specs.Str.Lossy.{utf8_valid_len}
 use Rattle.toml.specs.Data.{Data, Items, no_items, item, Members, no_members, member, get_member, as_str, as_integer, as_bool, as_array, as_table}
@@ -37,10 +39,15 @@ keys_of forms.Method = codes "name" ∷ codes "params" ∷ codes "guards" ∷ co
 abbrev pub is_listed : Form → List ℕ → Bool
 is_listed form key = list_any (bytes_eq key) (keys_of form)
 
--- the least key that isn't listed: the members of a table ascend by the bytes of their keys
-abbrev pub first_unlisted : Form → Members → Option (List ℕ)
-first_unlisted form no_members = None
-first_unlisted form (member key value ms) = if is_listed form key then first_unlisted form ms else Some key
+-- the lesser of a key and the least of others, in the order of their bytes
+abbrev pub lesser : List ℕ → Option (List ℕ) → List ℕ
+lesser key None = key
+lesser key (Some other) = if is_lt (slice_cmp nat_cmp other key) then other else key
+
+-- the least key of a table that isn't listed
+abbrev pub least_unlisted : Form → Members → Option (List ℕ)
+least_unlisted form no_members = None
+least_unlisted form (member key value ms) = if is_listed form key then least_unlisted form ms else Some (lesser key (least_unlisted form ms))
 
 abbrev pub if_all_listed : Option (List ℕ) → Result (Unit {0}) FileFault
 if_all_listed None = Ok tt
@@ -48,7 +55,7 @@ if_all_listed (Some key) = Err (UnknownKey key)
 
 -- goes on only where each key of the table is listed
 abbrev pub known : Form → Members → Result (Unit {0}) FileFault
-known form ms = if_all_listed (first_unlisted form ms)
+known form ms = if_all_listed (least_unlisted form ms)
 
 abbrev pub if_there : List ℕ → Option Data → Result Data FileFault
 if_there key None = Err (MissingKey key)

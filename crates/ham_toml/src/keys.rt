@@ -4,7 +4,7 @@ ghost use Rattle.std.specs.Prelude.{◌≡◌, option_map};
 ghost use Rattle.toml.specs.Data.{get_member, as_table};
 ghost use Rattle.toml.specs.View.{view, items_view, table_view};
 ghost use Rattle.ham_forms.specs.Outcomes.{FormsAs, Gives, Shows};
-ghost use Rattle.ham_toml.specs.KnownKeys.{IsFirstTheLeast};
+ghost use Rattle.ham_toml.specs.KnownKeys.{IsUnknownTheLeast};
 ghost use Rattle.ham_toml.specs.Toml as tables;
 
 use ham_forms::{FileFault, Unread, bad, missing, unknown};
@@ -44,22 +44,33 @@ fn lists(form: Form, key: &str) -> bool
     }
 }
 
-fn first_unlisted<'a>(form: Form, table: &'a Table) -> Option<&'a str>
-    ensures { option_map (λ s. s.now) result ≡ tables.first_unlisted form (table_view table.now) }
+/// The lesser of a key and the least of those before it.
+fn lesser<'a>(key: &'a str, least: Option<&'a str>) -> &'a str
+    ensures { result.now ≡ tables.lesser key.now (option_map (λ s. s.now) least.entry) }
 {
+    match least {
+        Some(other) if other < key => other,
+        _ => key,
+    }
+}
+
+fn least_unlisted<'a>(form: Form, table: &'a Table) -> Option<&'a str>
+    ensures { option_map (λ s. s.now) result ≡ tables.least_unlisted form (table_view table.now) }
+{
+    let mut least = None;
     for (key, _) in table {
         if !lists(form, key.as_str()) {
-            return Some(key.as_str());
+            least = Some(lesser(key.as_str(), least));
         }
     }
-    None
+    least
 }
 
 /// Refuses a table with a key that isn't listed.
 pub fn known(alloc: Global, form: Form, table: &Table) -> Result<(), FileFault>
     ensures { Gives result (tables.known form (table_view table.now)) }
 {
-    match first_unlisted(form, table) {
+    match least_unlisted(form, table) {
         None => Ok(()),
         Some(key) => Err(unknown(alloc, key)),
     }
@@ -126,7 +137,7 @@ pub fn entry<'a>(alloc: Global, key: &str, value: &'a Value) -> Result<&'a Table
     }
 }
 
-/// The key that a table has and that isn't listed is told by its place in the order of bytes: it is the least.
+/// A table is refused by the least key, byte by byte, of those that it has and that aren't listed.
 pub fn unknown_key_is_least()
-    ensures { IsFirstTheLeast }
+    ensures { IsUnknownTheLeast }
 {}
