@@ -19,6 +19,7 @@ use ham_records::Logged;
 use ham_site::Site;
 use ham_state::{Net, State};
 use ham_syntax::Place;
+use ham_syntax::limits::MAX_REPLICAS;
 use std::alloc::Global;
 
 /// How far each log was gone through, with the state of its replica there; how many calls are taken, and the first of
@@ -219,7 +220,7 @@ fn take_next(site: &Site, logs: &[IndexedLog], progress: &mut Progress) -> Resul
 
 /// The calls of all logs, counted.
 pub fn count_all(logs: &[IndexedLog]) -> usize
-    requires replicas { length logs.now ≤ 8 }
+    requires replicas { length logs.now ≤ MAX_REPLICAS }
     requires few { (r : ℕ) → length (log_of logs.now r) ≤ 2 ^ 24 }
     ensures count { result ≡ length (every_place logs.now) }
     ensures few { result ≤ 2 ^ 27 }

@@ -25,7 +25,7 @@ use Rattle.ham_grammar.specs.Typed.{IsTypedLine}
 use Rattle.ham_grammar.proofs.Spelling.{line_words}
 use Rattle.ham_world.specs.declared.refusal.StepRefusal.{StepRefusal}
 use Rattle.ham_world.specs.Worlds.{refusal_of, taken, inputs_of}
-use Rattle.ham_replay.specs.Replays.{Turn, Refuses, Answers, Played, event_by, event_turn, answer_if, answers_since, query_turn, read_turn, turn_of, then_played, answer_lines, played_from, played_made, played_first, played_lines, played}
+use Rattle.ham_replay.specs.Replays.{LineOutcome, Refuses, Answers, Played, event_by, event_outcome, answer_if, answers_since, query_outcome, read_outcome, line_outcome, then_played, answer_lines, played_from, played_made, played_first, played_lines, played}
 use Rattle.ham_bulk.specs.Scripts.{Script, generated}
 use Rattle.ham_bulk.specs.ScriptTexts.{script_text, script_lines, last_lines, line_of, event_line as event_text, compare_line as compare_text, others}
 use Rattle.ham_bulk.specs.Scripted.{AreTaken, AreSpelled, IsPlayedTo, ScriptsReplay}
@@ -70,21 +70,21 @@ not_skipped : (o : Schema) (l : Line) (bytes : List ℕ) → Spells o l bytes �
 not_skipped o l bytes h = ap are_skipped h.spelling.words ∙ some_words o l
 
 module _ (spelled : SpelledAreRead) (print : PrintedAreSpelled) (o : Schema) (checked : IsChecked o) (y : Setting) (count : ℕ) where
-  turn_by : (notes : List Note) (l : Line) (bytes : List ℕ) → Spells o l bytes → turn_of o y notes bytes ≡ read_turn o y notes (Ok l)
-  unfolding turn_of
+  turn_by : (notes : List Note) (l : Line) (bytes : List ℕ) → Spells o l bytes → line_outcome o y notes bytes ≡ read_outcome o y notes (Ok l)
+  unfolding line_outcome
   turn_by notes l bytes h =
-      ap (λ (b : Bool). if b then Answers notes [] else read_turn o y notes (read_of o bytes)) (not_skipped o l bytes h)
-      ∙ ap (read_turn o y notes) (spelled o checked l bytes h)
+      ap (λ (b : Bool). if b then Answers notes [] else read_outcome o y notes (read_of o bytes)) (not_skipped o l bytes h)
+      ∙ ap (read_outcome o y notes) (spelled o checked l bytes h)
 
-  event_turned : (notes : List Note) (e : Event) → refusal_of o y notes e ≡ None → event_turn o y notes e ≡ Answers (taken o y notes (inputs_of e)) (answers_since notes (taken o y notes (inputs_of e)))
-  unfolding event_turn
+  event_turned : (notes : List Note) (e : Event) → refusal_of o y notes e ≡ None → event_outcome o y notes e ≡ Answers (taken o y notes (inputs_of e)) (answers_since notes (taken o y notes (inputs_of e)))
+  unfolding event_outcome
   event_turned notes e is = ap (event_by o y notes e) is
 
   -- the rest is played to its end from these notes
   abbrev pub IsPlayedFrom : List Note → List (List ℕ) → List Note → Type 0
   IsPlayedFrom notes ls end = (number : ℕ) → IsPlayedTo (played_from o y count number notes ls) count end
 
-  one_more : (notes new end : List Note) (l : List ℕ) (ls : List (List ℕ)) (told : List Answer) → turn_of o y notes l ≡ Answers new told → IsPlayedFrom new ls end → IsPlayedFrom notes (l ∷ ls) end
+  one_more : (notes new end : List Note) (l : List ℕ) (ls : List (List ℕ)) (told : List Answer) → line_outcome o y notes l ≡ Answers new told → IsPlayedFrom new ls end → IsPlayedFrom notes (l ∷ ls) end
   unfolding played_from
   one_more notes new end l ls told e h number =
       let same : played_from o y count number notes (l ∷ ls) ≡ then_played (answer_lines told) (played_from o y count (number + 1) new ls) = rw (played_from, e) refl in
@@ -109,10 +109,10 @@ module _ (spelled : SpelledAreRead) (print : PrintedAreSpelled) (o : Schema) (ch
 
   pub record IsAnswered (notes : List Note) (r : ℕ) : Type 0 where
     pub answers : List Answer
-    pub turned : query_turn o y notes (queries.Compare 1 r) ≡ Answers notes answers
+    pub turned : query_outcome o y notes (queries.Compare 1 r) ≡ Answers notes answers
 
   compared : (notes : List Note) (r : ℕ) → 1 ≤ r → r ≤ y.replicas → IsAnswered notes r
-  unfolding query_turn
+  unfolding query_outcome
   compared notes r some few =
       record { answers = _; turned = answer_true (is_replica y 1 && is_replica y r) notes _ (rw (in_range 1 (omega arith) (omega (arith, some, few)), in_range r some few) refl) }
 

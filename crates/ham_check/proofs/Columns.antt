@@ -9,7 +9,7 @@ use Rattle.std.proofs.lemmas.Map.Steps.{length-le_from_distinct_below}
 use Rattle.std.proofs.Math.Seq.{append_snoc}
 use Rattle.ham_syntax.specs.Checked.{AreColumns}
 use Rattle.ham_check.specs.Faults.{is_bad_column, has_bad_column}
-use Rattle.ham_check.proofs.Parts.{or-none, AllByRecursion-push}
+use Rattle.ham_check.proofs.Lists.{or-none, AllByRecursion-push}
 
 pub AreColumns-none : (width : ℕ) → AreColumns width []
 unfolding IsDistinct

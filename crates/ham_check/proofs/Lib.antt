@@ -1,7 +1,7 @@
 mod FirstFaultOr
 mod FirstFault
 mod Walked
-pub mod Parts
+pub mod Lists
 mod Columns
 mod Ids
 mod NoFault

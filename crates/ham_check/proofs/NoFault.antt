@@ -30,9 +30,9 @@ use Rattle.ham_check.specs.declared.raw.IllKind.TheVariants.{BadArity, BadColumn
 use Rattle.ham_check.specs.declared.raw.Ill.{Ill}
 use Rattle.ham_syntax.specs.declared.limits.TheConstants.{MAX_AMOUNT}
 use Rattle.ham_syntax.specs.Checked.{IsParamOf, IsId, IsIdOrAny, IsAmount, IsKey, IsOnRelation, IsOnCounter, IsGuard, IsEffect, AreColumns, IsReference, IsUnique, IsInvariant}
-use Rattle.ham_check.specs.Faults.{fault_if, entry_faults, same_kind, param_kinds, param_at, param_place, term_kinds, terms_kinds, id_kinds, ids_kinds, relation_place, counter_at, counter_place, wanted_kinds, relation_wanted, counter_wanted, on_counter_kinds, counter_part_kinds, on_relation_kinds, relation_part_kinds, verb_kinds, width_at, has_bad_column, reference_kinds, unique_kinds, form_kinds, is_guard_verb, is_effect_verb, has_twins}
+use Rattle.ham_check.specs.Faults.{fault_if, entry_faults, same_kind, param_ills, param_at, param_place, term_ills, terms_ills, id_ills, ids_ills, relation_place, counter_at, counter_place, wanted_ills, relation_wanted, counter_wanted, on_counter_ills, counter_part_ills, on_relation_ills, relation_part_ills, verb_ills, width_at, has_bad_column, reference_ills, unique_ills, form_ills, is_guard_verb, is_effect_verb, has_twins}
 use Rattle.ham_check.specs.Resolved.{meant, resolved_term, resolved_key, resolved_amount, resolved_invariant, guard_of, effect_of}
-use Rattle.ham_check.proofs.Parts.{append-none, fault_if-none, not-false, or-none}
+use Rattle.ham_check.proofs.Lists.{append-none, fault_if-none, not-false, or-none}
 use Rattle.ham_check.proofs.Columns.{AreColumns-known}
 
 -- what each entry with no fault keeps, all of them have
@@ -76,30 +76,30 @@ same_kind-is Id Amount e = cc
 same_kind-is Amount Id e = cc
 same_kind-is Amount Amount e = refl
 
-IsParamOf-at : (params : List Param) (kind : Kind) (r : Option Param) (n : ℕ) → slice_get params n ≡ r → param_kinds kind r ≡ [] → (n < length params) × IfSome r (λ q. q.kind ≡ kind)
+IsParamOf-at : (params : List Param) (kind : Kind) (r : Option Param) (n : ℕ) → slice_get params n ≡ r → param_ills kind r ≡ [] → (n < length params) × IfSome r (λ q. q.kind ≡ kind)
 IsParamOf-at params kind None n e none = cc
 IsParamOf-at params kind (Some q) n e none =
     (slice_get_within params n q e, same_kind-is kind q.kind (not-false (same_kind kind q.kind) (fault_if-none (not (same_kind kind q.kind)) _ none)))
 
-IsParamOf-known : (params : List Param) (kind : Kind) (o : Option ℕ) → param_kinds kind (param_at params o) ≡ [] → IsParamOf params kind (unwrap_or o 0)
+IsParamOf-known : (params : List Param) (kind : Kind) (o : Option ℕ) → param_ills kind (param_at params o) ≡ [] → IsParamOf params kind (unwrap_or o 0)
 IsParamOf-known params kind None none = cc
 IsParamOf-known params kind (Some n) none = IsParamOf-at params kind (slice_get params n) n refl none
 
-IsId-term : (params : List Param) (t : RawTerm) → term_kinds Id params t ≡ [] → IsId params (resolved_term params t)
+IsId-term : (params : List Param) (t : RawTerm) → term_ills Id params t ≡ [] → IsId params (resolved_term params t)
 IsId-term params Any none = cc
 IsId-term params (Constant n) none = tt
 IsId-term params (Named name) none = IsParamOf-known params Id (param_place params name) none
 
-IsAmount-term : (params : List Param) (t : RawTerm) → term_kinds Amount params t ≡ [] → IsAmount params (resolved_term params t)
+IsAmount-term : (params : List Param) (t : RawTerm) → term_ills Amount params t ≡ [] → IsAmount params (resolved_term params t)
 IsAmount-term params Any none = cc
 IsAmount-term params (Constant n) none = leb-true n MAX_AMOUNT (not-false (leb n MAX_AMOUNT) (fault_if-none (not (leb n MAX_AMOUNT)) _ none))
 IsAmount-term params (Named name) none = IsParamOf-known params Amount (param_place params name) none
 
-terms-fit : (keyed : Bool) (params : List Param) (terms : List RawTerm) → terms_kinds keyed params terms ≡ [] → IsKey keyed params (resolved_key params terms) × IsAmount params (resolved_amount params terms)
+terms-fit : (keyed : Bool) (params : List Param) (terms : List RawTerm) → terms_ills keyed params terms ≡ [] → IsKey keyed params (resolved_key params terms) × IsAmount params (resolved_amount params terms)
 terms-fit true params [] none = cc
 terms-fit true params (t ∷ []) none = cc
 terms-fit true params (key ∷ amount ∷ []) none =
-    let parts = append-none (term_kinds Id params key) (term_kinds Amount params amount) none in
+    let parts = append-none (term_ills Id params key) (term_ills Amount params amount) none in
     (IsId-term params key parts.0, IsAmount-term params amount parts.1)
 terms-fit true params (t ∷ u ∷ v ∷ more) none = cc
 terms-fit false params [] none = cc
@@ -107,16 +107,16 @@ terms-fit false params (amount ∷ []) none = (tt, IsAmount-term params amount n
 terms-fit false params (t ∷ u ∷ more) none = cc
 
 -- a name that is wanted and found
-known-place : (o other : Option ℕ) → wanted_kinds o other ≡ [] → o ≡ Some (unwrap_or o 0)
+known-place : (o other : Option ℕ) → wanted_ills o other ≡ [] → o ≡ Some (unwrap_or o 0)
 known-place (Some n) other e = refl
 known-place None (Some n) e = cc
 known-place None None e = cc
 
-counter-below : (counters : List Counter) (name : List ℕ) (other : Option ℕ) → wanted_kinds (counter_place counters name) other ≡ [] → unwrap_or (counter_place counters name) 0 < length counters
+counter-below : (counters : List Counter) (name : List ℕ) (other : Option ℕ) → wanted_ills (counter_place counters name) other ≡ [] → unwrap_or (counter_place counters name) 0 < length counters
 counter-below counters name other none =
     (position-Some (λ c. pointwise nat_eq c.name name) counters _ (record { name = []; keyed = false }) (known-place (counter_place counters name) other none)).0
 
-relation-below : (relations : List Relation) (name : List ℕ) (other : Option ℕ) → wanted_kinds (relation_place relations name) other ≡ [] → unwrap_or (relation_place relations name) 0 < length relations
+relation-below : (relations : List Relation) (name : List ℕ) (other : Option ℕ) → wanted_ills (relation_place relations name) other ≡ [] → unwrap_or (relation_place relations name) 0 < length relations
 relation-below relations name other none =
     (position-Some (λ r. pointwise nat_eq r.name name) relations _ (record { name = []; columns = 0 }) (known-place (relation_place relations name) other none)).0
 
@@ -132,36 +132,36 @@ slice_get-not_none {A} xs n h e = by (slice_get_cases xs n).1
 
 -- ---- on counters
 
-on_counter-at : (counters : List Counter) (params : List Param) (terms : List RawTerm) (r : Option Counter) (n : ℕ) → n < length counters → slice_get counters n ≡ r → on_counter_kinds params terms r ≡ [] → IfSome r (λ c. IsKey c.keyed params (resolved_key params terms)) × IsAmount params (resolved_amount params terms)
+on_counter-at : (counters : List Counter) (params : List Param) (terms : List RawTerm) (r : Option Counter) (n : ℕ) → n < length counters → slice_get counters n ≡ r → on_counter_ills params terms r ≡ [] → IfSome r (λ c. IsKey c.keyed params (resolved_key params terms)) × IsAmount params (resolved_amount params terms)
 on_counter-at counters params terms None n h e none = absurd (slice_get-not_none counters n h e)
 on_counter-at counters params terms (Some c) n h e none = terms-fit c.keyed params terms none
 
-IsOnCounter-known : (relations : List Relation) (counters : List Counter) (params : List Param) (p : RawPart) → counter_part_kinds relations counters params p ≡ [] → let m = meant relations counters params p in IsOnCounter counters params m.counter m.key m.amount
+IsOnCounter-known : (relations : List Relation) (counters : List Counter) (params : List Param) (p : RawPart) → counter_part_ills relations counters params p ≡ [] → let m = meant relations counters params p in IsOnCounter counters params m.counter m.key m.amount
 IsOnCounter-known relations counters params p none =
-    let parts = append-none (counter_wanted relations counters p.name) (on_counter_kinds params p.terms (counter_at counters (counter_place counters p.name))) none in
+    let parts = append-none (counter_wanted relations counters p.name) (on_counter_ills params p.terms (counter_at counters (counter_place counters p.name))) none in
     let place = known-place (counter_place counters p.name) (relation_place relations p.name) parts.0 in
     let below = counter-below counters p.name (relation_place relations p.name) parts.0 in
-    let here = subst (λ o. on_counter_kinds params p.terms (counter_at counters o) ≡ []) place parts.1 in
+    let here = subst (λ o. on_counter_ills params p.terms (counter_at counters o) ≡ []) place parts.1 in
     let on = on_counter-at counters params p.terms _ (unwrap_or (counter_place counters p.name) 0) below refl here in
     record { exists = below; is_key = on.0; is_amount = on.1 }
 
 -- ---- on relations
 
-IsIdOrAny-term : (params : List Param) (t : RawTerm) → id_kinds true params t ≡ [] → IsIdOrAny params (resolved_term params t)
+IsIdOrAny-term : (params : List Param) (t : RawTerm) → id_ills true params t ≡ [] → IsIdOrAny params (resolved_term params t)
 IsIdOrAny-term params Any none = tt
 IsIdOrAny-term params (Constant n) none = tt
 IsIdOrAny-term params (Named name) none = IsParamOf-known params Id (param_place params name) none
 
-IsId-id : (params : List Param) (t : RawTerm) → id_kinds false params t ≡ [] → IsId params (resolved_term params t)
+IsId-id : (params : List Param) (t : RawTerm) → id_ills false params t ≡ [] → IsId params (resolved_term params t)
 IsId-id params Any none = cc
 IsId-id params (Constant n) none = tt
 IsId-id params (Named name) none = IsParamOf-known params Id (param_place params name) none
 
 -- what each term passes that is taken as an id
-each-passes : (any : Bool) (params : List Param) (P : Term → Type 0) → ((t : RawTerm) → id_kinds any params t ≡ [] → P (resolved_term params t)) → (ts : List RawTerm) → ids_kinds any params ts ≡ [] → AllByRecursion P (map (resolved_term params) ts)
+each-passes : (any : Bool) (params : List Param) (P : Term → Type 0) → ((t : RawTerm) → id_ills any params t ≡ [] → P (resolved_term params t)) → (ts : List RawTerm) → ids_ills any params ts ≡ [] → AllByRecursion P (map (resolved_term params) ts)
 each-passes any params P step [] none = tt
 each-passes any params P step (t ∷ ts) none =
-    let parts = append-none (id_kinds any params t) (ids_kinds any params ts) none in
+    let parts = append-none (id_ills any params t) (ids_ills any params ts) none in
     (step t parts.0, each-passes any params P step ts parts.1)
 
 -- the columns of a relation that is there
@@ -172,14 +172,14 @@ width-is relations place n e h = by (slice_get relations place) refl
     by None at = absurd (slice_get-not_none relations place h at)
     by (Some r) at = e ∙ ap (λ (o : Option Relation). unwrap_or (option_map (λ (x : Relation). x.columns) o) 0) at
 
-IsOnRelation-known : (any : Bool) (P : Term → Type 0) (relations : List Relation) (counters : List Counter) (params : List Param) (p : RawPart) → ((t : RawTerm) → id_kinds any params t ≡ [] → P (resolved_term params t)) → relation_part_kinds any relations counters params p ≡ [] → let m = meant relations counters params p in IsOnRelation relations P m.relation m.terms
+IsOnRelation-known : (any : Bool) (P : Term → Type 0) (relations : List Relation) (counters : List Counter) (params : List Param) (p : RawPart) → ((t : RawTerm) → id_ills any params t ≡ [] → P (resolved_term params t)) → relation_part_ills any relations counters params p ≡ [] → let m = meant relations counters params p in IsOnRelation relations P m.relation m.terms
 IsOnRelation-known any P relations counters params p step none =
-    let parts = append-none (relation_wanted relations counters p.name) (on_relation_kinds any relations params p.terms (relation_place relations p.name)) none in
+    let parts = append-none (relation_wanted relations counters p.name) (on_relation_ills any relations params p.terms (relation_place relations p.name)) none in
     let number = unwrap_or (relation_place relations p.name) 0 in
     let place = known-place (relation_place relations p.name) (counter_place counters p.name) parts.0 in
     let below = relation-below relations p.name (counter_place counters p.name) parts.0 in
-    let here = subst (λ o. on_relation_kinds any relations params p.terms o ≡ []) place parts.1 in
-    let tests = append-none (fault_if (not (eqb (length p.terms) (width_at relations number))) BadArity) (ids_kinds any params p.terms) here in
+    let here = subst (λ o. on_relation_ills any relations params p.terms o ≡ []) place parts.1 in
+    let tests = append-none (fault_if (not (eqb (length p.terms) (width_at relations number))) BadArity) (ids_ills any params p.terms) here in
     let wide = eqb-true (length p.terms) (width_at relations number) (not-false _ (fault_if-none _ _ tests.0)) in
     record {
       exists = below;
@@ -189,7 +189,7 @@ IsOnRelation-known any P relations counters params p step none =
 
 -- ---- guards and effects
 
-pub IsGuard-known : (relations : List Relation) (counters : List Counter) (params : List Param) (verb : Verb) (p : RawPart) → verb_kinds verb relations counters params p ≡ [] → is_guard_verb verb ≡ true → IsGuard relations counters params (guard_of verb (meant relations counters params p))
+pub IsGuard-known : (relations : List Relation) (counters : List Counter) (params : List Param) (verb : Verb) (p : RawPart) → verb_ills verb relations counters params p ≡ [] → is_guard_verb verb ≡ true → IsGuard relations counters params (guard_of verb (meant relations counters params p))
 IsGuard-known relations counters params Present p none g = IsOnRelation-known true (IsIdOrAny params) relations counters params p (IsIdOrAny-term params) none
 IsGuard-known relations counters params Absent p none g = IsOnRelation-known true (IsIdOrAny params) relations counters params p (IsIdOrAny-term params) none
 IsGuard-known relations counters params AtLeast p none g = IsOnCounter-known relations counters params p none
@@ -199,7 +199,7 @@ IsGuard-known relations counters params Delete p none g = cc
 IsGuard-known relations counters params Add p none g = cc
 IsGuard-known relations counters params Subtract p none g = cc
 
-pub IsEffect-known : (relations : List Relation) (counters : List Counter) (params : List Param) (verb : Verb) (p : RawPart) → verb_kinds verb relations counters params p ≡ [] → is_effect_verb verb ≡ true → IsEffect relations counters params (effect_of verb (meant relations counters params p))
+pub IsEffect-known : (relations : List Relation) (counters : List Counter) (params : List Param) (verb : Verb) (p : RawPart) → verb_ills verb relations counters params p ≡ [] → is_effect_verb verb ≡ true → IsEffect relations counters params (effect_of verb (meant relations counters params p))
 IsEffect-known relations counters params Insert p none g = IsOnRelation-known false (IsId params) relations counters params p (IsId-id params) none
 IsEffect-known relations counters params Delete p none g = IsOnRelation-known true (IsIdOrAny params) relations counters params p (IsIdOrAny-term params) none
 IsEffect-known relations counters params Add p none g = IsOnCounter-known relations counters params p none
@@ -223,7 +223,7 @@ are-columns relations place columns none h = by (slice_get relations place) refl
     by (Some r) at =
         subst (λ (o : Option Relation). AreColumns (unwrap_or (option_map (λ (x : Relation). x.columns) o) 0) columns) at (AreColumns-known (width_at relations place) columns none)
 
-IsReference-known : (relations : List Relation) (from : ℕ) (columns : List ℕ) (to : ℕ) → from < length relations → to < length relations → reference_kinds relations (Some from) columns (Some to) ≡ [] → IsReference relations from columns to
+IsReference-known : (relations : List Relation) (from : ℕ) (columns : List ℕ) (to : ℕ) → from < length relations → to < length relations → reference_ills relations (Some from) columns (Some to) ≡ [] → IsReference relations from columns to
 IsReference-known relations from columns to f t none =
     let other = append-none (fault_if (eqb from to) SelfReference) (fault_if (not (eqb (length columns) (width_at relations to))) BadArity ++ fault_if (has_bad_column (width_at relations from) [] columns) BadColumn) none in
     let arity = append-none (fault_if (not (eqb (length columns) (width_at relations to))) BadArity) (fault_if (has_bad_column (width_at relations from) [] columns) BadColumn) other.1 in
@@ -236,25 +236,25 @@ IsReference-known relations from columns to f t none =
       are_columns = are-columns relations from columns (fault_if-none _ _ arity.1) f;
     }
 
-IsUnique-known : (relations : List Relation) (r : ℕ) (columns : List ℕ) → r < length relations → unique_kinds relations (Some r) columns ≡ [] → IsUnique relations r columns
+IsUnique-known : (relations : List Relation) (r : ℕ) (columns : List ℕ) → r < length relations → unique_ills relations (Some r) columns ≡ [] → IsUnique relations r columns
 IsUnique-known relations r columns h none =
     let parts = append-none (fault_if (eqb (length columns) 0) BadArity) (fault_if (has_bad_column (width_at relations r) [] columns) BadColumn) none in
     let some = eqb-false (length columns) 0 (fault_if-none _ _ parts.0) in
     record { exists = h; some = omega arith; are_columns = are-columns relations r columns (fault_if-none _ _ parts.1) h }
 
-pub IsInvariant-known : (relations : List Relation) (counters : List Counter) (i : RawInvariant) → form_kinds relations counters i ≡ [] → IsInvariant relations counters (resolved_invariant relations counters i)
+pub IsInvariant-known : (relations : List Relation) (counters : List Counter) (i : RawInvariant) → form_ills relations counters i ≡ [] → IsInvariant relations counters (resolved_invariant relations counters i)
 IsInvariant-known relations counters (Reference from columns to) none =
-    let f = append-none (relation_wanted relations counters from) (relation_wanted relations counters to ++ reference_kinds relations (relation_place relations from) columns (relation_place relations to)) none in
-    let t = append-none (relation_wanted relations counters to) (reference_kinds relations (relation_place relations from) columns (relation_place relations to)) f.1 in
+    let f = append-none (relation_wanted relations counters from) (relation_wanted relations counters to ++ reference_ills relations (relation_place relations from) columns (relation_place relations to)) none in
+    let t = append-none (relation_wanted relations counters to) (reference_ills relations (relation_place relations from) columns (relation_place relations to)) f.1 in
     let from_is = known-place (relation_place relations from) (counter_place counters from) f.0 in
     let to_is = known-place (relation_place relations to) (counter_place counters to) t.0 in
-    let half = subst (λ o. reference_kinds relations o columns (relation_place relations to) ≡ []) from_is t.1 in
-    let here = subst (λ o. reference_kinds relations (Some (unwrap_or (relation_place relations from) 0)) columns o ≡ []) to_is half in
+    let half = subst (λ o. reference_ills relations o columns (relation_place relations to) ≡ []) from_is t.1 in
+    let here = subst (λ o. reference_ills relations (Some (unwrap_or (relation_place relations from) 0)) columns o ≡ []) to_is half in
     IsReference-known relations _ columns _ (relation-below relations from (counter_place counters from) f.0) (relation-below relations to (counter_place counters to) t.0) here
 IsInvariant-known relations counters (Unique r columns) none =
-    let parts = append-none (relation_wanted relations counters r) (unique_kinds relations (relation_place relations r) columns) none in
+    let parts = append-none (relation_wanted relations counters r) (unique_ills relations (relation_place relations r) columns) none in
     let is = known-place (relation_place relations r) (counter_place counters r) parts.0 in
-    let here = subst (λ o. unique_kinds relations o columns ≡ []) is parts.1 in
+    let here = subst (λ o. unique_ills relations o columns ≡ []) is parts.1 in
     IsUnique-known relations _ columns (relation-below relations r (counter_place counters r) parts.0) here
 IsInvariant-known relations counters (Low c limit) none =
     let parts = append-none (counter_wanted relations counters c) (fault_if (int_lt (pos 0) limit) OpeningBroken) none in

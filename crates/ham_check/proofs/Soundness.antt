@@ -1,5 +1,5 @@
 -- Where a raw object has no fault, its resolved form is a checked object.
-use Rattle.std.proofs.Common.{◌≡◌, ℕ, ◌+◌, ◌≤◌, Bool, true, false, ◌&&◌, ◌||◌, eqb, ltb, leb, ◌<◌, Ok, List, [], ◌∷◌, ◌++◌, length, map, refl, ap, arith}
+use Rattle.std.proofs.Common.{◌≡◌, ℕ, ◌+◌, ◌≤◌, Bool, true, false, ◌&&◌, ◌||◌, eqb, ltb, leb, ◌<◌, Ok, Err, List, [], ◌∷◌, ◌++◌, length, map, refl, ap, ◌∙◌, subst, arith}
 use Rattle.std.specs.Prelude.{nat_eq, not}
 use Rattle.std.specs.List.{AllByRecursion, IsDistinct, list_any}
 use Rattle.std.specs.Cmp.Lexicographic.{pointwise}
@@ -16,14 +16,16 @@ use Rattle.ham_check.specs.declared.raw.RawInvariant.{RawInvariant}
 use Rattle.ham_check.specs.declared.raw.RawMethod.{RawMethod}
 use Rattle.ham_check.specs.declared.raw.Raw.{Raw}
 use Rattle.ham_check.specs.declared.raw.Ill.{Ill}
+use Rattle.ham_check.specs.declared.raw.CheckFault.{CheckFault}
 use Rattle.ham_check.specs.declared.raw.IllKind.TheVariants.{TooMany, TwiceNamed, BadArity, WrongKind}
+use Rattle.ham_syntax.specs.Objects.{Schema}
 use Rattle.ham_syntax.specs.Checked.{IsRelation, IsNewName, IsGuard, IsEffect, IsInvariant, IsMethod, IsChecked}
 use Rattle.ham_syntax.specs.Typed.{IsTyped}
-use Rattle.ham_check.specs.Faults.{Checks, faults, fault_if, entry_faults, relation_of, relation_kinds, relation_faults, counter_faults, invariant_faults, form_kinds, method_faults, method_kinds, shape_kinds, parts_faults, guard_faults, effect_faults, verb_kinds, is_guard_verb, is_effect_verb, has_twins}
+use Rattle.ham_check.specs.Faults.{Checks, faults, fault_if, entry_faults, relation_of, relation_ills, relation_faults, counter_faults, invariant_faults, form_ills, method_faults, method_ills, shape_ills, parts_faults, guard_faults, effect_faults, verb_ills, is_guard_verb, is_effect_verb, has_twins}
 use Rattle.ham_check.specs.Resolved.{resolved, resolved_guard, resolved_effect, resolved_invariant, resolved_method}
-use Rattle.ham_check.proofs.Parts.{append-none, map-none, fault_if-none, not-false, or-none, AllByRecursion-push}
+use Rattle.ham_check.proofs.Lists.{append-none, map-none, fault_if-none, not-false, or-none, AllByRecursion-push}
 use Rattle.ham_check.proofs.NoFault.{entry_faults-keeps, length-below, IsDistinct-named, IsDistinct-params, IsGuard-known, IsEffect-known, IsInvariant-known}
-use Rattle.ham_check.proofs.FirstFault.{none-append}
+use Rattle.ham_check.proofs.FirstFault.{none-append, Checks-front, Checks-rest_Err}
 
 -- each entry, resolved, meets P where its tests find no fault
 each-known : {E V : Type 0} (test : List E → E → List Ill) (value : E → V) (P : V → Type 0) → ((b : List E) (e : E) → test b e ≡ [] → P (value e)) → (xs : List E) → entry_faults test [] xs ≡ [] → AllByRecursion P (map value xs)
@@ -49,7 +51,7 @@ IsGoodRelation-known : (b : List RawRelation) (r : RawRelation) → relation_fau
 IsGoodRelation-known b r none =
     let name_test = list_any (λ x. pointwise nat_eq r.name x.name) b in
     let width_test = not (ltb 0 r.columns && leb r.columns 4) in
-    let kinds : relation_kinds b r ≡ [] = map-none _ _ none in
+    let kinds : relation_ills b r ≡ [] = map-none _ _ none in
     let room = append-none (fault_if (eqb (length b) 16) TooMany) (fault_if name_test TwiceNamed ++ fault_if width_test BadArity) kinds in
     let name = append-none (fault_if name_test TwiceNamed) (fault_if width_test BadArity) room.1 in
     record { room = fault_if-none _ _ room.0; new_name = fault_if-none _ _ name.0; columns = columns-known r.columns (fault_if-none _ _ name.1) }
@@ -80,15 +82,15 @@ few-entries test n step xs none = entry_faults-keeps test (λ b. length b ≤ n)
 
 invariants-known : (rs : List Relation) (cs : List Counter) (is : List RawInvariant) → entry_faults (invariant_faults rs cs) [] is ≡ [] → (length is ≤ 32) × AllByRecursion (IsInvariant rs cs) (map (resolved_invariant rs cs) is)
 invariants-known rs cs is none = (
-  few-entries (invariant_faults rs cs) 32 (λ b i here. fault_if-none _ _ (append-none (fault_if (eqb (length b) 32) TooMany) (form_kinds rs cs i) (map-none _ _ here)).0) is none,
-  each-known (invariant_faults rs cs) (resolved_invariant rs cs) (IsInvariant rs cs) (λ b i here. IsInvariant-known rs cs i (append-none (fault_if (eqb (length b) 32) TooMany) (form_kinds rs cs i) (map-none _ _ here)).1) is none,
+  few-entries (invariant_faults rs cs) 32 (λ b i here. fault_if-none _ _ (append-none (fault_if (eqb (length b) 32) TooMany) (form_ills rs cs i) (map-none _ _ here)).0) is none,
+  each-known (invariant_faults rs cs) (resolved_invariant rs cs) (IsInvariant rs cs) (λ b i here. IsInvariant-known rs cs i (append-none (fault_if (eqb (length b) 32) TooMany) (form_ills rs cs i) (map-none _ _ here)).1) is none,
 )
 
 guards-known : (rs : List Relation) (cs : List Counter) (entry : ℕ) (params : List Param) (guards : List RawPart) → entry_faults (guard_faults rs cs entry params) [] guards ≡ [] → AllByRecursion (IsGuard rs cs params) (map (resolved_guard rs cs params) guards)
 guards-known rs cs entry params guards none =
     each-known (guard_faults rs cs entry params) (resolved_guard rs cs params) (IsGuard rs cs params)
     (λ b p here.
-    let parts = append-none (fault_if (not (is_guard_verb p.verb)) WrongKind) (verb_kinds p.verb rs cs params p) (map-none _ _ here) in
+    let parts = append-none (fault_if (not (is_guard_verb p.verb)) WrongKind) (verb_ills p.verb rs cs params p) (map-none _ _ here) in
     IsGuard-known rs cs params p.verb p parts.1 (not-false _ (fault_if-none _ _ parts.0)))
     guards none
 
@@ -96,7 +98,7 @@ effects-known : (rs : List Relation) (cs : List Counter) (entry : ℕ) (params :
 effects-known rs cs entry params effects none =
     each-known (effect_faults rs cs entry params) (resolved_effect rs cs params) (IsEffect rs cs params)
     (λ b p here.
-    let parts = append-none (fault_if (not (is_effect_verb p.verb)) WrongKind) (verb_kinds p.verb rs cs params p) (map-none _ _ here) in
+    let parts = append-none (fault_if (not (is_effect_verb p.verb)) WrongKind) (verb_ills p.verb rs cs params p) (map-none _ _ here) in
     IsEffect-known rs cs params p.verb p parts.1 (not-false _ (fault_if-none _ _ parts.0)))
     effects none
 
@@ -107,7 +109,7 @@ record HasShape (m : RawMethod) : Type 0 where
   few_guards : length m.guards ≤ 8
   few_effects : length m.effects ≤ 8
 
-HasShape-known : (m : RawMethod) → shape_kinds m ≡ [] → HasShape m
+HasShape-known : (m : RawMethod) → shape_ills m ≡ [] → HasShape m
 HasShape-known m none =
     let params = append-none (fault_if (ltb 6 (length m.params)) TooMany) (fault_if (has_twins m.params) TwiceNamed ++ (fault_if (ltb 8 (length m.guards)) TooMany ++ fault_if (ltb 8 (length m.effects)) TooMany)) none in
     let twins = append-none (fault_if (has_twins m.params) TwiceNamed) (fault_if (ltb 8 (length m.guards)) TooMany ++ fault_if (ltb 8 (length m.effects)) TooMany) params.1 in
@@ -130,9 +132,9 @@ record IsFaultless (rs : List Relation) (cs : List Counter) (b : List RawMethod)
 IsFaultless-known : (rs : List Relation) (cs : List Counter) (b : List RawMethod) (m : RawMethod) → method_faults rs cs b m ≡ [] → IsFaultless rs cs b m
 IsFaultless-known rs cs b m none =
     let itself = append-none _ (parts_faults rs cs (length b + 1) m) none in
-    let kinds : method_kinds b m ≡ [] = map-none _ _ itself.0 in
-    let room = append-none (fault_if (eqb (length b) 32) TooMany) (fault_if (list_any (λ x. pointwise nat_eq m.name x.name) b) TwiceNamed ++ shape_kinds m) kinds in
-    let name = append-none (fault_if (list_any (λ x. pointwise nat_eq m.name x.name) b) TwiceNamed) (shape_kinds m) room.1 in
+    let kinds : method_ills b m ≡ [] = map-none _ _ itself.0 in
+    let room = append-none (fault_if (eqb (length b) 32) TooMany) (fault_if (list_any (λ x. pointwise nat_eq m.name x.name) b) TwiceNamed ++ shape_ills m) kinds in
+    let name = append-none (fault_if (list_any (λ x. pointwise nat_eq m.name x.name) b) TwiceNamed) (shape_ills m) room.1 in
     let parts = append-none (entry_faults (guard_faults rs cs (length b + 1) m.params) [] m.guards) (entry_faults (effect_faults rs cs (length b + 1) m.params) [] m.effects) itself.1 in
     record {
       room = fault_if-none _ _ room.0;
@@ -207,3 +209,18 @@ AreParts-of raw rs cs is ms of_relations of_counters of_invariants of_methods =
 
 pub IsChecked-parts : (raw : Raw) (rs : List Relation) (cs : List Counter) (is : List Invariant) (ms : List Method) → AreParts raw rs cs is ms → IsTyped (record { relations = rs; counters = cs; invariants = is; methods = ms }) → IsChecked (record { relations = rs; counters = cs; invariants = is; methods = ms })
 IsChecked-parts raw rs cs is ms parts typed = rw parts.same (IsChecked-resolved raw (rw parts.same at typed) parts.none)
+
+-- the first fault of an invariant, where relations and counters have none, is the object's
+pub first-invariant : (raw : Raw) (relations rs : List Relation) (counters cs : List Counter) (is : List RawInvariant) (v : List Invariant) (w : Schema) (e : CheckFault)
+    → Checks (entry_faults relation_faults [] raw.relations) (map relation_of raw.relations) (Ok relations)
+    → Checks (entry_faults (counter_faults relations) [] raw.counters) raw.counters (Ok counters)
+    → rs ≡ relations → cs ≡ counters → is ≡ raw.invariants
+    → Checks (entry_faults (invariant_faults rs cs) [] is) v (Err e)
+    → Checks (faults raw) w (Err e)
+first-invariant raw relations rs counters cs is v w e r c same_rs same_cs same_is i =
+    let declared = map relation_of raw.relations in
+    let none : entry_faults (counter_faults declared) [] raw.counters ≡ [] = subst (λ rs. entry_faults (counter_faults rs) [] raw.counters ≡ []) r.1 c.0 in
+    let at_relations = subst (λ z. Checks (entry_faults (invariant_faults z cs) [] is) v (Err e)) (same_rs ∙ r.1) i in
+    let at_counters = subst (λ z. Checks (entry_faults (invariant_faults declared z) [] is) v (Err e)) (same_cs ∙ c.1) at_relations in
+    let first = subst (λ z. Checks (entry_faults (invariant_faults declared raw.counters) [] z) v (Err e)) same_is at_counters in
+    Checks-rest_Err _ _ declared declared w e (r.0, refl) (Checks-rest_Err _ _ raw.counters raw.counters w e (none, refl) (Checks-front _ _ v w e first))

@@ -61,42 +61,42 @@ abbrev pub param_place : List Param → List ℕ → Option ℕ
 param_place params name = position (λ p. pointwise nat_eq p.name name) params
 
 -- a name is wanted among those of one kind: it is there, or unknown, or it is of the other kind
-abbrev pub wanted_kinds : Option ℕ → Option ℕ → List IllKind
-wanted_kinds (Some place) other = []
-wanted_kinds None (Some place) = WrongKind ∷ []
-wanted_kinds None None = UnknownName ∷ []
+abbrev pub wanted_ills : Option ℕ → Option ℕ → List IllKind
+wanted_ills (Some place) other = []
+wanted_ills None (Some place) = WrongKind ∷ []
+wanted_ills None None = UnknownName ∷ []
 
 -- the name of a relation, which no counter's is
 abbrev pub relation_wanted : List Relation → List Counter → List ℕ → List IllKind
-relation_wanted relations counters name = wanted_kinds (relation_place relations name) (counter_place counters name)
+relation_wanted relations counters name = wanted_ills (relation_place relations name) (counter_place counters name)
 
 -- the name of a counter, which no relation's is
 abbrev pub counter_wanted : List Relation → List Counter → List ℕ → List IllKind
-counter_wanted relations counters name = wanted_kinds (counter_place counters name) (relation_place relations name)
+counter_wanted relations counters name = wanted_ills (counter_place counters name) (relation_place relations name)
 
 -- ---- relations and counters
 
 -- a relation: an entry too many, a name that an earlier one has, and no columns or too many
-abbrev pub relation_kinds : List RawRelation → RawRelation → List IllKind
-relation_kinds before r =
+abbrev pub relation_ills : List RawRelation → RawRelation → List IllKind
+relation_ills before r =
     fault_if (length before == MAX_RELATIONS) TooMany ++ (fault_if (list_any (λ b. pointwise nat_eq r.name b.name) before) TwiceNamed ++ fault_if (not (nat_lt 0 r.columns && nat_le r.columns MAX_COLUMNS)) BadArity)
 
 -- the faults of a relation, at its place
 abbrev pub relation_faults : List RawRelation → RawRelation → List Ill
-relation_faults before r = faults_at (place 1 (length before + 1) 0) (relation_kinds before r)
+relation_faults before r = faults_at (place 1 (length before + 1) 0) (relation_ills before r)
 
 -- the relation that is written so
 abbrev pub relation_of : RawRelation → Relation
 relation_of r = record { name = r.name; columns = r.columns }
 
 -- a counter: an entry too many, and a name that a relation or an earlier counter has
-abbrev pub counter_kinds : List Relation → List Counter → Counter → List IllKind
-counter_kinds relations before c =
+abbrev pub counter_ills : List Relation → List Counter → Counter → List IllKind
+counter_ills relations before c =
     fault_if (length before == MAX_COUNTERS) TooMany ++ fault_if (list_any (λ r. pointwise nat_eq c.name r.name) relations || list_any (λ b. pointwise nat_eq c.name b.name) before) TwiceNamed
 
 -- the faults of a counter, at its place
 abbrev pub counter_faults : List Relation → List Counter → Counter → List Ill
-counter_faults relations before c = faults_at (place 2 (length before + 1) 0) (counter_kinds relations before c)
+counter_faults relations before c = faults_at (place 2 (length before + 1) 0) (counter_ills relations before c)
 
 -- ---- invariants
 
@@ -114,33 +114,33 @@ has_bad_column width before [] = false
 has_bad_column width before (c ∷ cs) = is_bad_column width before c || has_bad_column width (before ++ c ∷ []) cs
 
 -- a reference between relations that are there: to another one, by as many columns as that has, which are columns of the first
-abbrev pub reference_kinds : List Relation → Option ℕ → List ℕ → Option ℕ → List IllKind
-reference_kinds relations (Some from) columns (Some to) =
+abbrev pub reference_ills : List Relation → Option ℕ → List ℕ → Option ℕ → List IllKind
+reference_ills relations (Some from) columns (Some to) =
     fault_if (from == to) SelfReference
     ++ (fault_if (not (length columns == width_at relations to)) BadArity ++ fault_if (has_bad_column (width_at relations from) [] columns) BadColumn)
-reference_kinds relations (Some from) columns None = []
-reference_kinds relations None columns to = []
+reference_ills relations (Some from) columns None = []
+reference_ills relations None columns to = []
 
 -- some columns of a relation that is there
-abbrev pub unique_kinds : List Relation → Option ℕ → List ℕ → List IllKind
-unique_kinds relations (Some r) columns = fault_if (length columns == 0) BadArity ++ fault_if (has_bad_column (width_at relations r) [] columns) BadColumn
-unique_kinds relations None columns = []
+abbrev pub unique_ills : List Relation → Option ℕ → List ℕ → List IllKind
+unique_ills relations (Some r) columns = fault_if (length columns == 0) BadArity ++ fault_if (has_bad_column (width_at relations r) [] columns) BadColumn
+unique_ills relations None columns = []
 
 -- what an invariant names is to be there; columns are to fit, and 0 to be within a limit
-abbrev pub form_kinds : List Relation → List Counter → RawInvariant → List IllKind
-form_kinds relations counters (Reference from columns to) =
-    relation_wanted relations counters from ++ (relation_wanted relations counters to ++ reference_kinds relations (relation_place relations from) columns (relation_place relations to))
-form_kinds relations counters (Unique r columns) = relation_wanted relations counters r ++ unique_kinds relations (relation_place relations r) columns
-form_kinds relations counters (Low c limit) = counter_wanted relations counters c ++ fault_if (int_lt (pos 0) limit) OpeningBroken
-form_kinds relations counters (High c limit) = counter_wanted relations counters c ++ fault_if (int_lt limit (pos 0)) OpeningBroken
+abbrev pub form_ills : List Relation → List Counter → RawInvariant → List IllKind
+form_ills relations counters (Reference from columns to) =
+    relation_wanted relations counters from ++ (relation_wanted relations counters to ++ reference_ills relations (relation_place relations from) columns (relation_place relations to))
+form_ills relations counters (Unique r columns) = relation_wanted relations counters r ++ unique_ills relations (relation_place relations r) columns
+form_ills relations counters (Low c limit) = counter_wanted relations counters c ++ fault_if (int_lt (pos 0) limit) OpeningBroken
+form_ills relations counters (High c limit) = counter_wanted relations counters c ++ fault_if (int_lt limit (pos 0)) OpeningBroken
 
 -- an invariant: an entry too many, and then by its form
-abbrev pub invariant_kinds : List Relation → List Counter → List RawInvariant → RawInvariant → List IllKind
-invariant_kinds relations counters before i = fault_if (length before == MAX_INVARIANTS) TooMany ++ form_kinds relations counters i
+abbrev pub invariant_ills : List Relation → List Counter → List RawInvariant → RawInvariant → List IllKind
+invariant_ills relations counters before i = fault_if (length before == MAX_INVARIANTS) TooMany ++ form_ills relations counters i
 
 -- the faults of an invariant, at its place
 abbrev pub invariant_faults : List Relation → List Counter → List RawInvariant → RawInvariant → List Ill
-invariant_faults relations counters before i = faults_at (place 3 (length before + 1) 0) (invariant_kinds relations counters before i)
+invariant_faults relations counters before i = faults_at (place 3 (length before + 1) 0) (invariant_ills relations counters before i)
 
 -- ---- terms
 
@@ -152,9 +152,9 @@ same_kind Amount Id = false
 same_kind Amount Amount = true
 
 -- the kind that is wanted against that of the parameter with the name, if there is one
-abbrev pub param_kinds : Kind → Option Param → List IllKind
-param_kinds kind None = UnknownName ∷ []
-param_kinds kind (Some p) = fault_if (not (same_kind kind p.kind)) WrongKind
+abbrev pub param_ills : Kind → Option Param → List IllKind
+param_ills kind None = UnknownName ∷ []
+param_ills kind (Some p) = fault_if (not (same_kind kind p.kind)) WrongKind
 
 -- the parameter with a name
 abbrev pub param_at : List Param → Option ℕ → Option Param
@@ -162,27 +162,27 @@ param_at params None = None
 param_at params (Some place) = slice_get params place
 
 -- a term, as a key or as an amount
-abbrev pub term_kinds : Kind → List Param → RawTerm → List IllKind
-term_kinds kind params Any = AnyNotAllowed ∷ []
-term_kinds kind params (Constant n) = fault_if (not (fits_kind kind n)) AmountTooLarge
-term_kinds kind params (Named name) = param_kinds kind (param_at params (param_place params name))
+abbrev pub term_ills : Kind → List Param → RawTerm → List IllKind
+term_ills kind params Any = AnyNotAllowed ∷ []
+term_ills kind params (Constant n) = fault_if (not (fits_kind kind n)) AmountTooLarge
+term_ills kind params (Named name) = param_ills kind (param_at params (param_place params name))
 
 -- the terms of a part: for a keyed counter a key and an amount, for a plain one an amount
-abbrev pub terms_kinds : Bool → List Param → List RawTerm → List IllKind
-terms_kinds true params (key ∷ amount ∷ []) = term_kinds Id params key ++ term_kinds Amount params amount
-terms_kinds false params (amount ∷ []) = term_kinds Amount params amount
-terms_kinds keyed params terms = BadArity ∷ []
+abbrev pub terms_ills : Bool → List Param → List RawTerm → List IllKind
+terms_ills true params (key ∷ amount ∷ []) = term_ills Id params key ++ term_ills Amount params amount
+terms_ills false params (amount ∷ []) = term_ills Amount params amount
+terms_ills keyed params terms = BadArity ∷ []
 
 -- a term as an id; where any is allowed, `_` too
-abbrev pub id_kinds : Bool → List Param → RawTerm → List IllKind
-id_kinds any params Any = fault_if (not any) AnyNotAllowed
-id_kinds any params (Constant n) = []
-id_kinds any params (Named name) = param_kinds Id (param_at params (param_place params name))
+abbrev pub id_ills : Bool → List Param → RawTerm → List IllKind
+id_ills any params Any = fault_if (not any) AnyNotAllowed
+id_ills any params (Constant n) = []
+id_ills any params (Named name) = param_ills Id (param_at params (param_place params name))
 
 -- each term from the left, as an id
-abbrev pub ids_kinds : Bool → List Param → List RawTerm → List IllKind
-ids_kinds any params [] = []
-ids_kinds any params (t ∷ ts) = id_kinds any params t ++ ids_kinds any params ts
+abbrev pub ids_ills : Bool → List Param → List RawTerm → List IllKind
+ids_ills any params [] = []
+ids_ills any params (t ∷ ts) = id_ills any params t ++ ids_ills any params ts
 
 -- ---- guards and effects
 
@@ -192,33 +192,33 @@ counter_at counters None = None
 counter_at counters (Some place) = slice_get counters place
 
 -- the terms on a counter that is there
-abbrev pub on_counter_kinds : List Param → List RawTerm → Option Counter → List IllKind
-on_counter_kinds params terms None = []
-on_counter_kinds params terms (Some c) = terms_kinds c.keyed params terms
+abbrev pub on_counter_ills : List Param → List RawTerm → Option Counter → List IllKind
+on_counter_ills params terms None = []
+on_counter_ills params terms (Some c) = terms_ills c.keyed params terms
 
 -- a counter, and the terms on it
-abbrev pub counter_part_kinds : List Relation → List Counter → List Param → RawPart → List IllKind
-counter_part_kinds relations counters params p = counter_wanted relations counters p.name ++ on_counter_kinds params p.terms (counter_at counters (counter_place counters p.name))
+abbrev pub counter_part_ills : List Relation → List Counter → List Param → RawPart → List IllKind
+counter_part_ills relations counters params p = counter_wanted relations counters p.name ++ on_counter_ills params p.terms (counter_at counters (counter_place counters p.name))
 
 -- the terms on a relation that is there: as many as it has columns, and each an id
-abbrev pub on_relation_kinds : Bool → List Relation → List Param → List RawTerm → Option ℕ → List IllKind
-on_relation_kinds any relations params terms None = []
-on_relation_kinds any relations params terms (Some place) = fault_if (not (length terms == width_at relations place)) BadArity ++ ids_kinds any params terms
+abbrev pub on_relation_ills : Bool → List Relation → List Param → List RawTerm → Option ℕ → List IllKind
+on_relation_ills any relations params terms None = []
+on_relation_ills any relations params terms (Some place) = fault_if (not (length terms == width_at relations place)) BadArity ++ ids_ills any params terms
 
 -- a relation, and the terms on it
-abbrev pub relation_part_kinds : Bool → List Relation → List Counter → List Param → RawPart → List IllKind
-relation_part_kinds any relations counters params p = relation_wanted relations counters p.name ++ on_relation_kinds any relations params p.terms (relation_place relations p.name)
+abbrev pub relation_part_ills : Bool → List Relation → List Counter → List Param → RawPart → List IllKind
+relation_part_ills any relations counters params p = relation_wanted relations counters p.name ++ on_relation_ills any relations params p.terms (relation_place relations p.name)
 
 -- what a verb is about, and its terms: only an insert allows no `_`
-abbrev pub verb_kinds : Verb → List Relation → List Counter → List Param → RawPart → List IllKind
-verb_kinds Present = relation_part_kinds true
-verb_kinds Absent = relation_part_kinds true
-verb_kinds Insert = relation_part_kinds false
-verb_kinds Delete = relation_part_kinds true
-verb_kinds AtLeast = counter_part_kinds
-verb_kinds AtMost = counter_part_kinds
-verb_kinds Add = counter_part_kinds
-verb_kinds Subtract = counter_part_kinds
+abbrev pub verb_ills : Verb → List Relation → List Counter → List Param → RawPart → List IllKind
+verb_ills Present = relation_part_ills true
+verb_ills Absent = relation_part_ills true
+verb_ills Insert = relation_part_ills false
+verb_ills Delete = relation_part_ills true
+verb_ills AtLeast = counter_part_ills
+verb_ills AtMost = counter_part_ills
+verb_ills Add = counter_part_ills
+verb_ills Subtract = counter_part_ills
 
 -- a verb of the guards
 abbrev pub is_guard_verb : Verb → Bool
@@ -236,16 +236,16 @@ abbrev pub is_effect_verb : Verb → Bool
 is_effect_verb verb = not (is_guard_verb verb)
 
 -- a guard or an effect: its verb, then its relation or counter, then its terms
-abbrev pub part_kinds : (Verb → Bool) → List Relation → List Counter → List Param → RawPart → List IllKind
-part_kinds is_verb relations counters params p = fault_if (not (is_verb p.verb)) WrongKind ++ verb_kinds p.verb relations counters params p
+abbrev pub part_ills : (Verb → Bool) → List Relation → List Counter → List Param → RawPart → List IllKind
+part_ills is_verb relations counters params p = fault_if (not (is_verb p.verb)) WrongKind ++ verb_ills p.verb relations counters params p
 
 -- the guards are the parts from 1 on
 abbrev pub guard_faults : List Relation → List Counter → ℕ → List Param → List RawPart → RawPart → List Ill
-guard_faults relations counters entry params before p = faults_at (place 4 entry (length before + 1)) (part_kinds is_guard_verb relations counters params p)
+guard_faults relations counters entry params before p = faults_at (place 4 entry (length before + 1)) (part_ills is_guard_verb relations counters params p)
 
 -- the effects are the parts after the last place of a guard
 abbrev pub effect_faults : List Relation → List Counter → ℕ → List Param → List RawPart → RawPart → List Ill
-effect_faults relations counters entry params before p = faults_at (place 4 entry (length before + MAX_PARTS + 1)) (part_kinds is_effect_verb relations counters params p)
+effect_faults relations counters entry params before p = faults_at (place 4 entry (length before + MAX_PARTS + 1)) (part_ills is_effect_verb relations counters params p)
 
 -- ---- methods
 
@@ -255,13 +255,13 @@ has_twins [] = false
 has_twins (p ∷ ps) = list_any (λ q. pointwise nat_eq p.name q.name) ps || has_twins ps
 
 -- what a method has too many of, or twice
-abbrev pub shape_kinds : RawMethod → List IllKind
-shape_kinds m =
+abbrev pub shape_ills : RawMethod → List IllKind
+shape_ills m =
     fault_if (nat_lt MAX_PARAMS (length m.params)) TooMany ++ (fault_if (has_twins m.params) TwiceNamed ++ (fault_if (nat_lt MAX_PARTS (length m.guards)) TooMany ++ fault_if (nat_lt MAX_PARTS (length m.effects)) TooMany))
 
 -- a method itself: an entry too many, a name that an earlier one has, and its shape
-abbrev pub method_kinds : List RawMethod → RawMethod → List IllKind
-method_kinds before m = fault_if (length before == MAX_METHODS) TooMany ++ (fault_if (list_any (λ b. pointwise nat_eq m.name b.name) before) TwiceNamed ++ shape_kinds m)
+abbrev pub method_ills : List RawMethod → RawMethod → List IllKind
+method_ills before m = fault_if (length before == MAX_METHODS) TooMany ++ (fault_if (list_any (λ b. pointwise nat_eq m.name b.name) before) TwiceNamed ++ shape_ills m)
 
 -- its guards and then its effects
 abbrev pub parts_faults : List Relation → List Counter → ℕ → RawMethod → List Ill
@@ -271,7 +271,7 @@ parts_faults relations counters entry m =
 -- a method: itself, and then its parts
 abbrev pub method_faults : List Relation → List Counter → List RawMethod → RawMethod → List Ill
 method_faults relations counters before m =
-    faults_at (place 4 (length before + 1) 0) (method_kinds before m) ++ parts_faults relations counters (length before + 1) m
+    faults_at (place 4 (length before + 1) 0) (method_ills before m) ++ parts_faults relations counters (length before + 1) m
 
 -- ---- objects
 

@@ -8,15 +8,15 @@ ghost use Rattle.ham_syntax.specs.Typed.{IsTypedEffect, IsTypedGuard, IsTypedInv
 ghost use Rattle.ham_check.specs.Faults as faults;
 ghost use Rattle.ham_check.specs.Resolved as resolved;
 
-use crate::entry::{check_counter, check_method, resolve_relation_entry};
-use crate::form::resolve_invariant;
-use crate::part::{resolve_effect, resolve_guard};
+use crate::beside::{check_counter, check_method, check_relation};
+use crate::declared::Declared;
+use crate::invariants::resolve_invariant;
+use crate::parts::{resolve_effect, resolve_guard};
 use crate::raw::{
     CheckFault, Ill, IllKind, IllPlace, Raw, RawInvariant, RawMethod, RawPart, RawRelation,
 };
-use ham_syntax::limits::{
-    MAX_COUNTERS, MAX_INVARIANTS, MAX_METHODS, MAX_PARAMS, MAX_PARTS, MAX_RELATIONS,
-};
+use crate::scope::Scope;
+use ham_syntax::limits::{MAX_COUNTERS, MAX_INVARIANTS, MAX_METHODS, MAX_PARTS, MAX_RELATIONS};
 use ham_syntax::{
     Counter, Effect, Guard, Invariant, Items, Method, NoMemory, Object, Param, Relation,
 };
@@ -52,10 +52,10 @@ fn relation_entry(before: &[RawRelation], relation: &RawRelation) -> Result<Rela
         entry: before.len() as u32 + 1,
         part: 0,
     };
-    placed(at, resolve_relation_entry(before, relation))
+    placed(at, check_relation(before, relation))
 }
 
-fn resolve_relations(alloc: Global, raw: &[RawRelation]) -> Result<Items<Relation>, CheckFault>
+fn check_relations(alloc: Global, raw: &[RawRelation]) -> Result<Items<Relation>, CheckFault>
     ensures checks { faults.Checks (faults.entry_faults faults.relation_faults [] raw.now) (map faults.relation_of raw.now) result }
     ensures few { IfOk result (λ relations. length relations ≤ MAX_RELATIONS) }
     ensures each { IfOk result (λ relations. AllByRecursion IsRelation relations) }
@@ -107,18 +107,14 @@ fn check_counters(
 }
 
 fn invariant_entry(
-    relations: &[Relation],
-    counters: &[Counter],
+    declared: &Declared,
     before: &[RawInvariant],
     invariant: &RawInvariant,
 ) -> Result<Invariant, CheckFault>
-    requires relations { length relations.now ≤ MAX_RELATIONS }
-    requires each { AllByRecursion IsRelation relations.now }
-    requires counters { length counters.now ≤ MAX_COUNTERS }
     requires before { length before.now ≤ MAX_INVARIANTS }
     ensures checks { faults.Checks
-        (faults.invariant_faults relations.now counters.now before.now invariant.now)
-        (resolved.resolved_invariant relations.now counters.now invariant.now)
+        (faults.invariant_faults declared.now.relations.now declared.now.counters.now before.now invariant.now)
+        (resolved.resolved_invariant declared.now.relations.now declared.now.counters.now invariant.now)
         result }
     ensures room { IfOk result (λ _. length before.now ≢ MAX_INVARIANTS) }
     ensures typed { IfOk result IsTypedInvariant }
@@ -128,50 +124,37 @@ fn invariant_entry(
         entry: before.len() as u32 + 1,
         part: 0,
     };
-    placed(
-        at,
-        resolve_invariant(relations, counters, before, invariant),
-    )
+    placed(at, resolve_invariant(declared, before, invariant))
 }
 
 fn resolve_invariants(
     alloc: Global,
-    relations: &[Relation],
-    counters: &[Counter],
+    declared: &Declared,
     raw: &[RawInvariant],
 ) -> Result<Items<Invariant>, CheckFault>
-    requires relations { length relations.now ≤ MAX_RELATIONS }
-    requires each { AllByRecursion IsRelation relations.now }
-    requires counters { length counters.now ≤ MAX_COUNTERS }
     ensures checks { faults.Checks
-        (faults.entry_faults (faults.invariant_faults relations.now counters.now) [] raw.now)
-        (map (resolved.resolved_invariant relations.now counters.now) raw.now)
+        (faults.entry_faults (faults.invariant_faults declared.now.relations.now declared.now.counters.now) [] raw.now)
+        (map (resolved.resolved_invariant declared.now.relations.now declared.now.counters.now) raw.now)
         result }
     ensures typed { IfOk result (AllByRecursion IsTypedInvariant) }
 {
     let mut invariants = Items::new(alloc);
     for (i, invariant) in raw.iter().enumerate() {
-        invariants.push(invariant_entry(relations, counters, &raw[..i], invariant)?)?;
+        invariants.push(invariant_entry(declared, &raw[..i], invariant)?)?;
     }
     Ok(invariants)
 }
 
 fn guard_entry(
-    relations: &[Relation],
-    counters: &[Counter],
+    scope: &Scope,
     entry: u32,
-    params: &[Param],
     before: &[RawPart],
     part: &RawPart,
 ) -> Result<Guard, CheckFault>
-    requires relations { length relations.now ≤ MAX_RELATIONS }
-    requires each { AllByRecursion IsRelation relations.now }
-    requires counters { length counters.now ≤ MAX_COUNTERS }
-    requires params { length params.now ≤ MAX_PARAMS }
     requires before { length before.now ≤ MAX_PARTS }
     ensures checks { faults.Checks
-        (faults.guard_faults relations.now counters.now entry params.now before.now part.now)
-        (resolved.resolved_guard relations.now counters.now params.now part.now)
+        (faults.guard_faults scope.now.declared.relations.now scope.now.declared.counters.now entry scope.now.params.now before.now part.now)
+        (resolved.resolved_guard scope.now.declared.relations.now scope.now.declared.counters.now scope.now.params.now part.now)
         result }
     ensures typed { IfOk result IsTypedGuard }
 {
@@ -180,51 +163,39 @@ fn guard_entry(
         entry,
         part: before.len() as u8 + 1,
     };
-    placed(at, resolve_guard(relations, counters, params, part))
+    placed(at, resolve_guard(scope, part))
 }
 
 fn resolve_guards(
     alloc: Global,
-    relations: &[Relation],
-    counters: &[Counter],
+    scope: &Scope,
     entry: u32,
-    params: &[Param],
     raw: &[RawPart],
 ) -> Result<Items<Guard>, CheckFault>
-    requires relations { length relations.now ≤ MAX_RELATIONS }
-    requires each { AllByRecursion IsRelation relations.now }
-    requires counters { length counters.now ≤ MAX_COUNTERS }
-    requires params { length params.now ≤ MAX_PARAMS }
     requires raw { length raw.now ≤ MAX_PARTS }
     ensures checks { faults.Checks
-        (faults.entry_faults (faults.guard_faults relations.now counters.now entry params.now) [] raw.now)
-        (map (resolved.resolved_guard relations.now counters.now params.now) raw.now)
+        (faults.entry_faults (faults.guard_faults scope.now.declared.relations.now scope.now.declared.counters.now entry scope.now.params.now) [] raw.now)
+        (map (resolved.resolved_guard scope.now.declared.relations.now scope.now.declared.counters.now scope.now.params.now) raw.now)
         result }
     ensures typed { IfOk result (AllByRecursion IsTypedGuard) }
 {
     let mut guards = Items::new(alloc);
     for (i, part) in raw.iter().enumerate() {
-        guards.push(guard_entry(relations, counters, entry, params, &raw[..i], part)?)?;
+        guards.push(guard_entry(scope, entry, &raw[..i], part)?)?;
     }
     Ok(guards)
 }
 
 fn effect_entry(
-    relations: &[Relation],
-    counters: &[Counter],
+    scope: &Scope,
     entry: u32,
-    params: &[Param],
     before: &[RawPart],
     part: &RawPart,
 ) -> Result<Effect, CheckFault>
-    requires relations { length relations.now ≤ MAX_RELATIONS }
-    requires each { AllByRecursion IsRelation relations.now }
-    requires counters { length counters.now ≤ MAX_COUNTERS }
-    requires params { length params.now ≤ MAX_PARAMS }
     requires before { length before.now ≤ MAX_PARTS }
     ensures checks { faults.Checks
-        (faults.effect_faults relations.now counters.now entry params.now before.now part.now)
-        (resolved.resolved_effect relations.now counters.now params.now part.now)
+        (faults.effect_faults scope.now.declared.relations.now scope.now.declared.counters.now entry scope.now.params.now before.now part.now)
+        (resolved.resolved_effect scope.now.declared.relations.now scope.now.declared.counters.now scope.now.params.now part.now)
         result }
     ensures typed { IfOk result IsTypedEffect }
 {
@@ -233,31 +204,25 @@ fn effect_entry(
         entry,
         part: (before.len() + MAX_PARTS) as u8 + 1,
     };
-    placed(at, resolve_effect(relations, counters, params, part))
+    placed(at, resolve_effect(scope, part))
 }
 
 fn resolve_effects(
     alloc: Global,
-    relations: &[Relation],
-    counters: &[Counter],
+    scope: &Scope,
     entry: u32,
-    params: &[Param],
     raw: &[RawPart],
 ) -> Result<Items<Effect>, CheckFault>
-    requires relations { length relations.now ≤ MAX_RELATIONS }
-    requires each { AllByRecursion IsRelation relations.now }
-    requires counters { length counters.now ≤ MAX_COUNTERS }
-    requires params { length params.now ≤ MAX_PARAMS }
     requires raw { length raw.now ≤ MAX_PARTS }
     ensures checks { faults.Checks
-        (faults.entry_faults (faults.effect_faults relations.now counters.now entry params.now) [] raw.now)
-        (map (resolved.resolved_effect relations.now counters.now params.now) raw.now)
+        (faults.entry_faults (faults.effect_faults scope.now.declared.relations.now scope.now.declared.counters.now entry scope.now.params.now) [] raw.now)
+        (map (resolved.resolved_effect scope.now.declared.relations.now scope.now.declared.counters.now scope.now.params.now) raw.now)
         result }
     ensures typed { IfOk result (AllByRecursion IsTypedEffect) }
 {
     let mut effects = Items::new(alloc);
     for (i, part) in raw.iter().enumerate() {
-        effects.push(effect_entry(relations, counters, entry, params, &raw[..i], part)?)?;
+        effects.push(effect_entry(scope, entry, &raw[..i], part)?)?;
     }
     Ok(effects)
 }
@@ -278,18 +243,14 @@ fn named_params(alloc: Global, raw: &[Param]) -> Result<Items<Param>, NoMemory>
 
 fn method_entry(
     alloc: Global,
-    relations: &[Relation],
-    counters: &[Counter],
+    declared: &Declared,
     before: &[RawMethod],
     raw: &RawMethod,
 ) -> Result<Method, CheckFault>
-    requires relations { length relations.now ≤ MAX_RELATIONS }
-    requires each { AllByRecursion IsRelation relations.now }
-    requires counters { length counters.now ≤ MAX_COUNTERS }
     requires before { length before.now ≤ MAX_METHODS }
     ensures checks { faults.Checks
-        (faults.method_faults relations.now counters.now before.now raw.now)
-        (resolved.resolved_method relations.now counters.now raw.now)
+        (faults.method_faults declared.now.relations.now declared.now.counters.now before.now raw.now)
+        (resolved.resolved_method declared.now.relations.now declared.now.counters.now raw.now)
         result }
     ensures room { IfOk result (λ _. length before.now ≢ MAX_METHODS) }
     ensures typed { IfOk result IsTypedMethod }
@@ -302,22 +263,12 @@ fn method_entry(
     };
     placed(at, check_method(before, raw))?;
     let params = named_params(alloc, raw.params.items())?;
-    let guards = resolve_guards(
-        alloc,
-        relations,
-        counters,
-        entry,
-        params.items(),
-        raw.guards.items(),
-    )?;
-    let effects = resolve_effects(
-        alloc,
-        relations,
-        counters,
-        entry,
-        params.items(),
-        raw.effects.items(),
-    )?;
+    let scope = Scope {
+        declared: *declared,
+        params: params.items(),
+    };
+    let guards = resolve_guards(alloc, &scope, entry, raw.guards.items())?;
+    let effects = resolve_effects(alloc, &scope, entry, raw.effects.items())?;
     Ok(Method {
         name: raw.name.known(),
         params,
@@ -328,22 +279,18 @@ fn method_entry(
 
 fn resolve_methods(
     alloc: Global,
-    relations: &[Relation],
-    counters: &[Counter],
+    declared: &Declared,
     raw: &[RawMethod],
 ) -> Result<Items<Method>, CheckFault>
-    requires relations { length relations.now ≤ MAX_RELATIONS }
-    requires each { AllByRecursion IsRelation relations.now }
-    requires counters { length counters.now ≤ MAX_COUNTERS }
     ensures checks { faults.Checks
-        (faults.entry_faults (faults.method_faults relations.now counters.now) [] raw.now)
-        (map (resolved.resolved_method relations.now counters.now) raw.now)
+        (faults.entry_faults (faults.method_faults declared.now.relations.now declared.now.counters.now) [] raw.now)
+        (map (resolved.resolved_method declared.now.relations.now declared.now.counters.now) raw.now)
         result }
     ensures typed { IfOk result (AllByRecursion IsTypedMethod) }
 {
     let mut methods = Items::new(alloc);
     for (i, method) in raw.iter().enumerate() {
-        methods.push(method_entry(alloc, relations, counters, &raw[..i], method)?)?;
+        methods.push(method_entry(alloc, declared, &raw[..i], method)?)?;
     }
     Ok(methods)
 }
@@ -354,19 +301,13 @@ fn resolve_methods(
 pub fn check_object(alloc: Global, raw: &Raw) -> Result<Object, CheckFault>
     ensures { faults.Checks (faults.faults raw.now) (resolved.resolved raw.now) result }
 {
-    let relations = resolve_relations(alloc, raw.relations.items())?;
+    let relations = check_relations(alloc, raw.relations.items())?;
     let counters = check_counters(alloc, relations.items(), raw.counters.items())?;
-    let invariants = resolve_invariants(
-        alloc,
-        relations.items(),
-        counters.items(),
-        raw.invariants.items(),
-    )?;
-    let methods = resolve_methods(
-        alloc,
-        relations.items(),
-        counters.items(),
-        raw.methods.items(),
-    )?;
+    let declared = Declared {
+        relations: relations.items(),
+        counters: counters.items(),
+    };
+    let invariants = resolve_invariants(alloc, &declared, raw.invariants.items())?;
+    let methods = resolve_methods(alloc, &declared, raw.methods.items())?;
     Ok(Object::of_parts(alloc, relations, counters, invariants, methods)?)
 }

@@ -5,12 +5,13 @@
 //! place, it is told by section, entry and part.
 #![tactic(auto)]
 
+mod beside;
 pub mod check;
-mod entry;
-mod form;
-mod found;
-mod part;
+mod declared;
+mod invariants;
+mod parts;
 pub mod raw;
+mod scope;
 
 pub use check::check_object;
 pub use raw::{

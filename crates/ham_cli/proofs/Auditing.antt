@@ -16,11 +16,11 @@ use Rattle.ham_cli.specs.declared.writes.Answer.{Answer}
 use Rattle.ham_cli.specs.declared.audits.AuditRefusal.{AuditRefusal}
 use Rattle.ham_cli.specs.declared.audits.AuditRefusal.TheVariants.{BadLine, Fault}
 use Rattle.ham_cli.specs.Plans.{IsPlanFor, HaveOneSetting}
-use Rattle.ham_cli.specs.AuditAnswers.{PlansFor, IsFaultless, IsAccepted, IsRefused, IsVerdict, is_want, AreAccepted, AreRefused, AnswersRecords, audit_refusal, AnswersAudit}
+use Rattle.ham_cli.specs.AuditAnswers.{PlansFor, IsFaultless, IsAccepted, IsRefused, IsVerdict, is_no_memory, AreAccepted, AreRefused, AnswersRecords, audit_refusal, AnswersAudit}
 use Rattle.ham_cli.specs.Told.{IsTold}
 
 -- a fault that isn't want of memory is the first fault
-first : (f : AuditFault) (o : Schema) (p : Plan) (records : List (List Logged)) → IsAnswer (rules_of o) (setting_of p) records (Err f) → is_want f ≡ false → fault_of (rules_of o) (setting_of p) records ≡ Some f
+first : (f : AuditFault) (o : Schema) (p : Plan) (records : List (List Logged)) → IsAnswer (rules_of o) (setting_of p) records (Err f) → is_no_memory f ≡ false → fault_of (rules_of o) (setting_of p) records ≡ Some f
 first (faults.BadPlace r i) o p records h n = h
 first (faults.Twice r i) o p records h n = h
 first (faults.NotDecided r i) o p records h n = h

@@ -15,7 +15,7 @@ use Rattle.ham_cli.specs.declared.exit.Exit.TheVariants as exits
 use Rattle.ham_cli.specs.Commands.{Asked, Asks, AsksNothing, AsksOnce, Beside, beside}
 use Rattle.ham_cli.specs.Exits.{exit_of_fetch}
 use Rattle.ham_cli.specs.Files.{HasFile, HasBeside, Stops, EndsBeside, EndsUnread}
-use Rattle.ham_cli.specs.Told.{Nothing, RunsOut, PutsMade, is_want, object_refusal}
+use Rattle.ham_cli.specs.Told.{Nothing, RunsOut, PutsMade, is_no_memory, object_refusal}
 use Rattle.ham_cli.specs.Top.{EndsWith, EndsOn, EndsRead, Ends}
 
 -- ---- fetching
@@ -70,7 +70,7 @@ pub read_object : (held : Option (List File)) (text : List ℕ) (o : Schema) (as
 read_object None text o asked before now exit is ends = tt
 read_object (Some files) text o asked before now exit is ends = inr (o, is, ends)
 
-pub unread : (text : List ℕ) (fault : FileFault) (before now : Option (List ℕ)) (exit : Exit) → Answers text (Err fault) → (is_want fault ≡ true → RunsOut before now exit) → PutsMade before now (object_refusal fault) exits.ObjectRefused exit
+pub unread : (text : List ℕ) (fault : FileFault) (before now : Option (List ℕ)) (exit : Exit) → Answers text (Err fault) → (is_no_memory fault ≡ true → RunsOut before now exit) → PutsMade before now (object_refusal fault) exits.ObjectRefused exit
     → EndsUnread text before now exit
 unread text (faults.NotUtf8 at) before now exit is want puts = inr (faults.NotUtf8 at, is, puts)
 unread text faults.NotToml before now exit is want puts = inr (faults.NotToml, is, puts)
@@ -81,7 +81,7 @@ unread text (faults.Ill ill) before now exit is want puts = inr (faults.Ill ill,
 unread text (faults.BadLine line) before now exit is want puts = inr (faults.BadLine line, is, puts)
 unread text faults.NoMemory before now exit is want puts = inl (want refl)
 
-pub read_refused : (held : Option (List File)) (text : List ℕ) (fault : FileFault) (asked : Asked) (before now : Option (List ℕ)) (exit : Exit) → Answers text (Err fault) → (is_want fault ≡ true → RunsOut before now exit)
+pub read_refused : (held : Option (List File)) (text : List ℕ) (fault : FileFault) (asked : Asked) (before now : Option (List ℕ)) (exit : Exit) → Answers text (Err fault) → (is_no_memory fault ≡ true → RunsOut before now exit)
     → PutsMade before now (object_refusal fault) exits.ObjectRefused exit → IfSome held (λ files. EndsRead text asked files before now exit)
 read_refused None text fault asked before now exit is want puts = tt
 read_refused (Some files) text fault asked before now exit is want puts = inl (unread text fault before now exit is want puts)

@@ -4,14 +4,15 @@ use Rattle.std.specs.Prelude.{nat_le, option_and_then, option_map, MatchOption, 
 use Rattle.std.specs.List.{list_all}
 use Rattle.std.specs.Str.{bytes_eq, is_utf8}
 use Rattle.std.specs.Fmt.{decimal}
-use Rattle.std.proofs.lemmas.Bool.{leb-true, le-leb}
+use Rattle.std.proofs.lemmas.Bool.{leb-true, le-leb, and_parts}
+use Rattle.std.proofs.lemmas.Option.{same_Some}
 use Rattle.ham_syntax.specs.declared.limits.TheConstants.{MAX_REPLICAS}
 use Rattle.ham_syntax.specs.Names.{is_name}
 use Rattle.ham_text.specs.Numbers.{number_of}
 use Rattle.ham_text.proofs.Wording.{decimal_read}
 use Rattle.ham_text.proofs.Several.{number_spelled, number_small}
+use Rattle.ham_text.proofs.Choices.{either, branch, only, steps, mapped, text_is}
 use Rattle.ham_bulk.specs.declared.drafting.TheConstants.{MAX_ROUNDS}
-use Rattle.ham_forms.proofs.Choices.{both, same_some, either, chosen, only, steps, mapped, text_is}
 use Rattle.ham_cli.specs.declared.command.Command.{Command}
 use Rattle.ham_cli.specs.declared.command.Drawing.{Drawing}
 use Rattle.ham_cli.specs.declared.named.NamedClaim.{NamedClaim}
@@ -30,8 +31,8 @@ record Spells (verb : List ℕ) (rest : List (List ℕ)) (asked : Asked) : Type 
 few_is : (n k : ℕ) → reading.few_of n ≡ Some k → (n ≡ k) × AreFew k
 few_is n k e =
     let c = only (nat_le 1 n && nat_le n MAX_REPLICAS) (Some n) k e in
-    let b = both (nat_le 1 n) (nat_le n MAX_REPLICAS) c.0 in
-    let same : n ≡ k = same_some n k c.1 in
+    let b = and_parts (nat_le 1 n) (nat_le n MAX_REPLICAS) c.0 in
+    let same : n ≡ k = same_Some n k c.1 in
     (same, subst AreFew same (record { some = leb-true 1 n b.0; few = leb-true n MAX_REPLICAS b.1 }))
 
 replicas_spelled : (w : List ℕ) (k : ℕ) → reading.replicas_of w ≡ Some k → (w ≡ decimal k) × AreFew k
@@ -44,7 +45,7 @@ replicas_spelled w k e =
 rounds_is : (n k : ℕ) → reading.rounds_in n ≡ Some k → (n ≡ k) × (k ≤ MAX_ROUNDS)
 rounds_is n k e =
     let c = only (nat_le n MAX_ROUNDS) (Some n) k e in
-    let same : n ≡ k = same_some n k c.1 in
+    let same : n ≡ k = same_Some n k c.1 in
     (same, subst (λ x. x ≤ MAX_ROUNDS) same (leb-true n MAX_ROUNDS c.0))
 
 rounds_spelled : (w : List ℕ) (k : ℕ) → reading.rounds_of w ≡ Some k → (w ≡ decimal k) × (k ≤ MAX_ROUNDS)
@@ -63,7 +64,7 @@ drawing_spelled a b c d e =
     let s = steps (number_of a) _ d e in
     let n = steps (reading.replicas_of b) _ d s.2 in
     let k = steps (reading.rounds_of c) _ d n.2 in
-    let is : record { seed = s.0; replicas = n.0; rounds = k.0 } ≡ d = same_some (record { seed = s.0; replicas = n.0; rounds = k.0 }) d k.2 in
+    let is : record { seed = s.0; replicas = n.0; rounds = k.0 } ≡ d = same_Some (record { seed = s.0; replicas = n.0; rounds = k.0 }) d k.2 in
     let few = replicas_spelled b n.0 n.1 in
     let more = rounds_spelled c k.0 k.1 in
     subst (λ (x : Drawing). (a ∷ b ∷ c ∷ [] ≡ drawing_words x) × IsDrawing x) is
@@ -94,22 +95,22 @@ claimed [] c e = absurd cc
 claimed (k ∷ []) c e = absurd cc
 claimed (k ∷ m ∷ []) c e =
     let o = only (is_name m && bytes_eq k (codes "is")) (Some (Is m)) c e in
-    let b = both (is_name m) (bytes_eq k (codes "is")) o.0 in
-    subst (λ (x : NamedClaim). (k ∷ m ∷ [] ≡ claim_words x) × AreNames x) (same_some (Is m) c o.1) (ap (λ (w : List ℕ). w ∷ m ∷ []) (text_is k (codes "is") b.1), b.0)
+    let b = and_parts (is_name m) (bytes_eq k (codes "is")) o.0 in
+    subst (λ (x : NamedClaim). (k ∷ m ∷ [] ≡ claim_words x) × AreNames x) (same_Some (Is m) c o.1) (ap (λ (w : List ℕ). w ∷ m ∷ []) (text_is k (codes "is") b.1), b.0)
 claimed (k ∷ m ∷ n ∷ []) c e =
     let o = only (is_name m && is_name n) (reading.claim_of_kind k m n) c e in
-    let b = both (is_name m) (is_name n) o.0 in
+    let b = and_parts (is_name m) (is_name n) o.0 in
     kind_spelled k m n c b.0 b.1 o.1
 claimed (k ∷ m ∷ n ∷ x ∷ xs) c e = absurd cc
 
 one_word : (rest : List (List ℕ)) (w : List ℕ) → reading.only rest ≡ Some w → rest ≡ w ∷ []
 one_word [] w e = absurd cc
-one_word (v ∷ []) w e = ap (λ (x : List ℕ). x ∷ []) (same_some v w e)
+one_word (v ∷ []) w e = ap (λ (x : List ℕ). x ∷ []) (same_Some v w e)
 one_word (v ∷ x ∷ xs) w e = absurd cc
 
 -- each verb with its rest
 normal_spelled : (verb : List ℕ) (rest : List (List ℕ)) (a : Asked) → verb ≡ codes "normal" → reading.normal_in rest ≡ Some a → Spells verb rest a
-normal_spelled verb [] a v e = subst (Spells verb []) (same_some Normalizes a e) (record { verb_is = v; rest_is = refl; in_range = tt })
+normal_spelled verb [] a v e = subst (Spells verb []) (same_Some Normalizes a e) (record { verb_is = v; rest_is = refl; in_range = tt })
 normal_spelled verb (x ∷ xs) a v e = absurd cc
 
 file_spelled : (verb : List ℕ) (rest : List (List ℕ)) (make : List ℕ → Asked) (a : Asked) → option_map make (reading.only rest) ≡ Some a → ((w : List ℕ) → rest ≡ w ∷ [] → Spells verb rest (make w)) → Spells verb rest a
@@ -136,25 +137,25 @@ tables_spelled verb rest a v e =
 
 asked_spelled : (verb : List ℕ) (rest : List (List ℕ)) (a : Asked) → reading.asked_by verb rest ≡ Some a → Spells verb rest a
 unfolding reading.asked_by
-asked_spelled verb rest a e = elim (chosen (bytes_eq verb (codes "normal")) (reading.normal_in rest) _ a e) [
+asked_spelled verb rest a e = elim (branch (bytes_eq verb (codes "normal")) (reading.normal_in rest) _ a e) [
   | inl h ↦ normal_spelled verb rest a (text_is verb (codes "normal") h.0) h.1
-  | inr e ↦ elim (chosen (bytes_eq verb (codes "replay")) (option_map Replays (reading.only rest)) _ a e) [
+  | inr e ↦ elim (branch (bytes_eq verb (codes "replay")) (option_map Replays (reading.only rest)) _ a e) [
     | inl h ↦ file_spelled verb rest Replays a h.1 (λ w is. record { verb_is = text_is verb (codes "replay") h.0; rest_is = is; in_range = tt })
-    | inr e ↦ elim (chosen (bytes_eq verb (codes "record")) (option_map Records (reading.only rest)) _ a e) [
+    | inr e ↦ elim (branch (bytes_eq verb (codes "record")) (option_map Records (reading.only rest)) _ a e) [
       | inl h ↦ file_spelled verb rest Records a h.1 (λ w is. record { verb_is = text_is verb (codes "record") h.0; rest_is = is; in_range = tt })
-      | inr e ↦ elim (chosen (bytes_eq verb (codes "audit")) (option_map Audits (reading.only rest)) _ a e) [
+      | inr e ↦ elim (branch (bytes_eq verb (codes "audit")) (option_map Audits (reading.only rest)) _ a e) [
         | inl h ↦ file_spelled verb rest Audits a h.1 (λ w is. record { verb_is = text_is verb (codes "audit") h.0; rest_is = is; in_range = tt })
-        | inr e ↦ elim (chosen (bytes_eq verb (codes "check")) (option_map Checks (reading.only rest)) _ a e) [
+        | inr e ↦ elim (branch (bytes_eq verb (codes "check")) (option_map Checks (reading.only rest)) _ a e) [
           | inl h ↦ file_spelled verb rest Checks a h.1 (λ w is. record { verb_is = text_is verb (codes "check") h.0; rest_is = is; in_range = tt })
-          | inr e ↦ elim (chosen (bytes_eq verb (codes "derive")) (option_map Derives (reading.claim_in rest)) _ a e) [
+          | inr e ↦ elim (branch (bytes_eq verb (codes "derive")) (option_map Derives (reading.claim_in rest)) _ a e) [
             | inl h ↦ claim_spelled verb rest Derives a h.1 (λ x is. record { verb_is = text_is verb (codes "derive") h.0; rest_is = is.0; in_range = is.1 })
-            | inr e ↦ elim (chosen (bytes_eq verb (codes "example")) (option_map Exemplifies (reading.claim_in rest)) _ a e) [
+            | inr e ↦ elim (branch (bytes_eq verb (codes "example")) (option_map Exemplifies (reading.claim_in rest)) _ a e) [
               | inl h ↦ claim_spelled verb rest Exemplifies a h.1 (λ x is. record { verb_is = text_is verb (codes "example") h.0; rest_is = is.0; in_range = is.1 })
-              | inr e ↦ elim (chosen (bytes_eq verb (codes "tables")) (option_map Tabulates (option_and_then reading.replicas_of (reading.only rest))) _ a e) [
+              | inr e ↦ elim (branch (bytes_eq verb (codes "tables")) (option_map Tabulates (option_and_then reading.replicas_of (reading.only rest))) _ a e) [
                 | inl h ↦ tables_spelled verb rest a (text_is verb (codes "tables") h.0) h.1
-                | inr e ↦ elim (chosen (bytes_eq verb (codes "bulk")) (option_map Bulks (reading.drawing_in rest)) _ a e) [
+                | inr e ↦ elim (branch (bytes_eq verb (codes "bulk")) (option_map Bulks (reading.drawing_in rest)) _ a e) [
                   | inl h ↦ drawn_spelled verb rest Bulks a h.1 (λ x is. record { verb_is = text_is verb (codes "bulk") h.0; rest_is = is.0; in_range = is.1 })
-                  | inr e ↦ elim (chosen (bytes_eq verb (codes "script")) (option_map Scripts (reading.drawing_in rest)) None a e) [
+                  | inr e ↦ elim (branch (bytes_eq verb (codes "script")) (option_map Scripts (reading.drawing_in rest)) None a e) [
                     | inl h ↦ drawn_spelled verb rest Scripts a h.1 (λ x is. record { verb_is = text_is verb (codes "script") h.0; rest_is = is.0; in_range = is.1 })
                     | inr e ↦ absurd (let bad = e in cc)
                   ]
@@ -239,7 +240,7 @@ pub not_text : (words : List (List ℕ)) → false ≡ list_all is_utf8 words �
 not_text words e object a h = let bad = e ∙ h.text in absurd cc
 
 same_pair : (o p : List ℕ) (a b : Asked) → ◌≡◌ {A = Option (List ℕ × Asked)} (Some (o, a)) (Some (p, b)) → (o ≡ p) × (a ≡ b)
-same_pair o p a b e = parts o p a b (same_some {A = List ℕ × Asked} (o, a) (p, b) e)
+same_pair o p a b e = parts o p a b (same_Some {A = List ℕ × Asked} (o, a) (p, b) e)
 
 pub asks_once : (words : List (List ℕ)) → AsksOnce words
 asks_once words object other a b h k = same_pair object other a b (sym (asks_read words object a h) ∙ asks_read words other b k)

@@ -73,9 +73,9 @@ IsVerdict o bytes (Ok count) = IsAccepted o bytes count
 IsVerdict o bytes (Err why) = IsRefused o bytes why
 
 -- it was memory that was wanting
-abbrev pub is_want : AuditFault → Bool
-is_want faults.NoMemory = true
-is_want _ = false
+abbrev pub is_no_memory : AuditFault → Bool
+is_no_memory faults.NoMemory = true
+is_no_memory _ = false
 
 -- records in the setting of the derived plan: no fault, or the first; in every setting of such a plan
 pub record AreAccepted (o : Schema) (records : List (List Logged)) (count : ℕ) : Type 0 where
@@ -93,7 +93,7 @@ pub record AreRefused (o : Schema) (records : List (List Logged)) (fault : Audit
 
 abbrev pub AnswersRecords : Schema → List (List Logged) → Result ℕ AuditFault → Type 0
 AnswersRecords o records (Ok count) = AreAccepted o records count
-AnswersRecords o records (Err fault) = is_want fault ≡ false → AreRefused o records fault
+AnswersRecords o records (Err fault) = is_no_memory fault ≡ false → AreRefused o records fault
 
 -- ---- texts
 

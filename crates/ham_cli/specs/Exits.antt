@@ -9,17 +9,17 @@ use Rattle.ham_cli.specs.declared.exit.Exit.{Exit}
 use Rattle.ham_cli.specs.declared.exit.Exit.TheVariants as exits
 
 -- the status of the process
-abbrev pub number_of : Exit → ℕ
-number_of exits.Done = 0
-number_of exits.Usage = 1
-number_of exits.ObjectRefused = 2
-number_of exits.ScheduleRefused = 3
-number_of exits.ReadFault = 4
-number_of exits.WriteFault = 5
-number_of exits.NoMemory = 6
-number_of exits.TooLong = 7
-number_of exits.DerivationRefused = 8
-number_of exits.AuditRefused = 10
+abbrev pub status_of : Exit → ℕ
+status_of exits.Done = 0
+status_of exits.Usage = 1
+status_of exits.ObjectRefused = 2
+status_of exits.ScheduleRefused = 3
+status_of exits.ReadFault = 4
+status_of exits.WriteFault = 5
+status_of exits.NoMemory = 6
+status_of exits.TooLong = 7
+status_of exits.DerivationRefused = 8
+status_of exits.AuditRefused = 10
 
 abbrev pub exit_of_fetch : FetchFault → Exit
 exit_of_fetch fetches.Failed = exits.ReadFault

@@ -4,9 +4,8 @@ use Rattle.std.specs.Prelude.{ℕ, nat_le, ◌&&◌, List, [], ◌∷◌, Option
 use Rattle.std.specs.Str.{bytes_eq}
 use Rattle.ham_syntax.specs.declared.limits.TheConstants.{MAX_REPLICAS}
 use Rattle.ham_syntax.specs.Names.{is_name}
-use Rattle.ham_text.specs.Numbers.{number_of}
+use Rattle.ham_text.specs.Numbers.{number_of, ◌>>=◌}
 use Rattle.ham_bulk.specs.declared.drafting.TheConstants.{MAX_ROUNDS}
-use Rattle.ham_forms.specs.Words.{◌>>=◌}
 use Rattle.ham_cli.specs.declared.command.Drawing.{Drawing}
 use Rattle.ham_cli.specs.declared.named.NamedClaim.{NamedClaim}
 use Rattle.ham_cli.specs.declared.named.NamedClaim.TheVariants.{Sc, Pr, Pl, Is}

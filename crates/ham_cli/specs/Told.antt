@@ -22,9 +22,9 @@ abbrev pub line_of : List ℕ → List ℕ → List ℕ
 line_of what why = what ++ (why ++ 10 ∷ [])
 
 -- it was memory that was wanting
-abbrev pub is_want : FileFault → Bool
-is_want faults.NoMemory = true
-is_want _ = false
+abbrev pub is_no_memory : FileFault → Bool
+is_no_memory faults.NoMemory = true
+is_no_memory _ = false
 
 abbrev pub object_refusal : FileFault → List ℕ
 object_refusal fault = line_of (codes "object refused: ") (fault_text fault)

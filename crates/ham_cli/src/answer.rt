@@ -23,7 +23,7 @@ use ham_syntax::Object;
 use std::alloc::Global;
 
 /// Writes what the task answers.
-pub fn answer<K: Sink>(
+pub(crate) fn answer<K: Sink>(
     alloc: Global,
     object: &Object,
     task: &Task<'_>,

@@ -17,7 +17,7 @@ use ham_text::push_digits;
 use std::alloc::Global;
 
 /// The most bytes of a file of records.
-pub const MAX_RECORDS_BYTES: u64 = 67_108_864;
+pub(crate) const MAX_RECORDS_BYTES: u64 = 67_108_864;
 
 /// Why records are refused.
 #[derive(Clone, Copy, Debug, PartialEq, Eq, Drop)]
@@ -66,7 +66,7 @@ fn bad_line(alloc: Global, line: u64) -> Result<Bytes, NoMemory>
 }
 
 /// How many calls were decided in the records that the bytes are the text of, or why they are refused.
-pub fn audit_text(alloc: Global, object: &Object, bytes: &[u8]) -> Result<Answer, NoMemory>
+pub(crate) fn audit_text(alloc: Global, object: &Object, bytes: &[u8]) -> Result<Answer, NoMemory>
     ensures answer { IfOk result (λ a. answers.AnswersAudit object.now bytes.now a.exit a.text) }
     ensures end { IfOk result (λ a. IsEnd a.exit) }
 {
@@ -130,7 +130,7 @@ fn audit_records(alloc: Global, object: &Object, records: &Records) -> Result<u3
 
 /// A fault is why records are refused, unless memory ran out.
 fn refusal_of(fault: AuditFault) -> Result<AuditRefusal, NoMemory>
-    ensures { IfOk result (λ why. (why ≡ AuditRefusal.Fault fault) × (answers.is_want fault ≡ false)) }
+    ensures { IfOk result (λ why. (why ≡ AuditRefusal.Fault fault) × (answers.is_no_memory fault ≡ false)) }
 {
     match fault {
         AuditFault::NoMemory => Err(NoMemory),

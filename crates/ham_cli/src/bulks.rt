@@ -28,7 +28,12 @@ fn plan_for(object: &Object, drawing: Drawing) -> Plan
 }
 
 /// Plays the script that is drawn, and writes what became of it.
-pub fn put_bulk<K: Sink>(alloc: Global, object: &Object, drawing: Drawing, out: &mut K) -> Exit
+pub(crate) fn put_bulk<K: Sink>(
+    alloc: Global,
+    object: &Object,
+    drawing: Drawing,
+    out: &mut K,
+) -> Exit
     requires { IsDrawing drawing }
     ensures ends { Tells (answers.AnswersBulk object.now drawing) (K.taken out.old) (K.taken out.new) result }
     ensures counted { IsSinkCounted (K.faults out.old) (K.faults out.new) result }
@@ -38,7 +43,12 @@ pub fn put_bulk<K: Sink>(alloc: Global, object: &Object, drawing: Drawing, out: 
 }
 
 /// Writes the script that is drawn.
-pub fn put_script<K: Sink>(alloc: Global, object: &Object, drawing: Drawing, out: &mut K) -> Exit
+pub(crate) fn put_script<K: Sink>(
+    alloc: Global,
+    object: &Object,
+    drawing: Drawing,
+    out: &mut K,
+) -> Exit
     requires { IsDrawing drawing }
     ensures ends { Tells (answers.AnswersScript object.now drawing) (K.taken out.old) (K.taken out.new) result }
     ensures replays { result ≡ Exit.Done → answers.IsReplayed object.now drawing }

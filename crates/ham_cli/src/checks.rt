@@ -14,7 +14,7 @@ use ham_syntax::{NoMemory, Object};
 use std::alloc::Global;
 
 /// Whether the bytes are the text of a good derivation.
-pub fn check_text(alloc: Global, object: &Object, bytes: &[u8]) -> Result<Answer, NoMemory>
+pub(crate) fn check_text(alloc: Global, object: &Object, bytes: &[u8]) -> Result<Answer, NoMemory>
     ensures answer { IfOk result (λ a. answers.AnswersCheck object.now bytes.now a.exit a.text) }
     ensures end { IfOk result (λ a. IsEnd a.exit) }
 {

@@ -62,7 +62,7 @@ pub struct Need<'a> {
 
 impl<'a> Task<'a> {
     /// The file that is read beside the object's.
-    pub fn need(&self) -> Option<Need<'a>>
+    pub(crate) fn need(&self) -> Option<Need<'a>>
         ensures { MatchOption result (commands.beside (commands.seen self.now) ≡ None) (λ need. commands.beside (commands.seen self.now) ≡ Some (commands.seen_need need)) }
     {
         match *self {
@@ -93,7 +93,7 @@ impl<'a> Task<'a> {
 }
 
 /// What the words after the program's name ask; none where they are no command's.
-pub fn command_of(words: &[Word]) -> Option<Command<'_>>
+pub(crate) fn command_of(words: &[Word]) -> Option<Command<'_>>
     ensures asks { MatchOption result (commands.AsksNothing words.now) (λ command. commands.Asks words.now command.object.now (commands.seen command.task)) }
 {
     if are_text(words) { read(words) } else { None }

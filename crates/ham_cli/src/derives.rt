@@ -16,7 +16,11 @@ use ham_syntax::{Bytes, NoMemory, Object};
 use std::alloc::Global;
 
 /// A derivation of the claim on the methods of these names, or the first obligation that has no reason.
-pub fn derive_named(alloc: Global, object: &Object, claim: NamedClaim) -> Result<Answer, NoMemory>
+pub(crate) fn derive_named(
+    alloc: Global,
+    object: &Object,
+    claim: NamedClaim,
+) -> Result<Answer, NoMemory>
     ensures answer { IfOk result (λ a. answers.AnswersDerive object.now (answers.claim_named object.now claim) a.exit a.text) }
     ensures end { IfOk result (λ a. IsEnd a.exit) }
 {

@@ -14,7 +14,11 @@ use ham_witness::{NoExample, example, print_example};
 use std::alloc::Global;
 
 /// The first case that shows the claim on the methods of these names false, or why there is none.
-pub fn show_named(alloc: Global, object: &Object, claim: NamedClaim) -> Result<Answer, NoMemory>
+pub(crate) fn show_named(
+    alloc: Global,
+    object: &Object,
+    claim: NamedClaim,
+) -> Result<Answer, NoMemory>
     ensures answer { IfOk result (λ a. answers.AnswersExample object.now (answers.claim_named object.now claim) a.exit a.text) }
     ensures end { IfOk result (λ a. IsEnd a.exit) }
 {

@@ -32,11 +32,11 @@ pub enum Exit {
 }
 
 impl Exit {
-    ghost use Rattle.ham_cli.specs.Exits.{number_of};
+    ghost use Rattle.ham_cli.specs.Exits.{status_of};
 
     /// The status that the process ends with.
     pub fn number(self) -> u8
-        ensures { result ≡ number_of self }
+        ensures { result ≡ status_of self }
     {
         self as u8
     }
@@ -54,7 +54,7 @@ pub fn exit_of_fetch(fault: FetchFault) -> Exit
 }
 
 /// How the program ends after a replay.
-pub fn exit_of_replay(end: ReplayEnd) -> Exit
+pub(crate) fn exit_of_replay(end: ReplayEnd) -> Exit
     ensures { result ≡ exits.exit_of_replay end }
 {
     match end {

@@ -20,7 +20,7 @@ pub enum NamedClaim {
 impl NamedClaim {
     /// The claim of a kind and one word; none where the kind takes two, or the word is no name.
     #[tactic(auto, unfolding(crate::specs::Reading::claim_on_one))]
-    pub fn on_one(kind: &[u8], m: &[u8]) -> Option<NamedClaim>
+    pub(crate) fn on_one(kind: &[u8], m: &[u8]) -> Option<NamedClaim>
         ensures { result ≡ reading.claim_on_one kind.now m.now }
     {
         let m = Name::new(m)?;
@@ -33,7 +33,7 @@ impl NamedClaim {
 
     /// The claim of a kind and two words; none where the kind takes one, or a word is no name.
     #[tactic(auto, unfolding(crate::specs::Reading::claim_on_two))]
-    pub fn on_two(kind: &[u8], m: &[u8], n: &[u8]) -> Option<NamedClaim>
+    pub(crate) fn on_two(kind: &[u8], m: &[u8], n: &[u8]) -> Option<NamedClaim>
         ensures { result ≡ reading.claim_on_two kind.now m.now n.now }
     {
         let m = Name::new(m)?;
@@ -43,7 +43,7 @@ impl NamedClaim {
 
     /// The claim on the object's methods; none where a name is no method.
     #[tactic(auto, unfolding(crate::specs::ClaimAnswers::claim_named))]
-    pub fn find(self, object: &Object) -> Option<Claim>
+    pub(crate) fn find(self, object: &Object) -> Option<Claim>
         ensures claim { result ≡ claim_named object.now self }
         ensures methods { IfSome result (λ claim. HasMethods object.now claim) }
     {

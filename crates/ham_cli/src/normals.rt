@@ -11,7 +11,7 @@ use ham_syntax::{NoMemory, Object};
 use std::alloc::Global;
 
 /// The object's plain form.
-pub fn plain_form(alloc: Global, object: &Object) -> Result<Answer, NoMemory>
+pub(crate) fn plain_form(alloc: Global, object: &Object) -> Result<Answer, NoMemory>
     ensures answer { IfOk result (λ a. IsTold Exit.Done (plain_of object.now) a.exit a.text) }
     ensures end { IfOk result (λ a. IsEnd a.exit) }
 {

@@ -9,7 +9,7 @@ use ham_tables::Derived;
 use ham_tables::laws::derived_plans_are_sound;
 
 /// The plans that the rules derive from an object, for 1 to `MAX_REPLICAS` replicas.
-pub fn plans_of(object: &Object) -> Plans
+pub(crate) fn plans_of(object: &Object) -> Plans
     ensures derived { AreDerived object.now result.at }
     ensures sound { ArePlans object.now result.at }
 {

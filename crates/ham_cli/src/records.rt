@@ -13,7 +13,12 @@ use ham_syntax::Object;
 use std::alloc::Global;
 
 /// Writes the logs of the run that a schedule makes, with the acts of their calls.
-pub fn put_record<K: Sink>(alloc: Global, object: &Object, schedule: &[u8], out: &mut K) -> Exit
+pub(crate) fn put_record<K: Sink>(
+    alloc: Global,
+    object: &Object,
+    schedule: &[u8],
+    out: &mut K,
+) -> Exit
     ensures ends { Tells (AnswersRecord object.now schedule.now) (K.taken out.old) (K.taken out.new) result }
     ensures well { result ≡ Exit.Done → IsRecordedWell object.now schedule.now }
     ensures counted { IsSinkCounted (K.faults out.old) (K.faults out.new) result }

@@ -21,7 +21,7 @@ pub enum Refusal {
 
 impl Refusal {
     /// The answer that tells it.
-    pub fn answer(self, alloc: Global) -> Result<Answer, NoMemory>
+    pub(crate) fn answer(self, alloc: Global) -> Result<Answer, NoMemory>
         ensures answer { IfOk result (λ a. told.IsTold Exit.DerivationRefused (told.derivation_refusal self) a.exit a.text) }
         ensures end { IfOk result (λ a. told.IsEnd a.exit) }
     {

@@ -12,7 +12,12 @@ use ham_syntax::Object;
 use std::alloc::Global;
 
 /// Writes the text of the run that a schedule makes.
-pub fn put_replay<K: Sink>(alloc: Global, object: &Object, schedule: &[u8], out: &mut K) -> Exit
+pub(crate) fn put_replay<K: Sink>(
+    alloc: Global,
+    object: &Object,
+    schedule: &[u8],
+    out: &mut K,
+) -> Exit
     ensures ends { Tells (AnswersReplay object.now schedule.now) (K.taken out.old) (K.taken out.new) result }
     ensures counted { IsSinkCounted (K.faults out.old) (K.faults out.new) result }
 {

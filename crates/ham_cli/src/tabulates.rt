@@ -12,7 +12,7 @@ use ham_tables::{plan_of, print_tables};
 use std::alloc::Global;
 
 /// The tables of the object's derived plan for so many replicas.
-pub fn tabulate(alloc: Global, object: &Object, replicas: u8) -> Result<Answer, NoMemory>
+pub(crate) fn tabulate(alloc: Global, object: &Object, replicas: u8) -> Result<Answer, NoMemory>
     requires { AreFew replicas }
     ensures answer { IfOk result (λ a. AnswersTables object.now replicas a.exit a.text) }
     ensures end { IfOk result (λ a. IsEnd a.exit) }

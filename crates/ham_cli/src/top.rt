@@ -95,11 +95,11 @@ fn perform_read<H: Shelf, K: Sink>(
 
 /// Tells why there is no object.
 pub fn refuse_object<K: Sink>(alloc: Global, fault: &FileFault, out: &mut K) -> Exit
-    ensures want { told.is_want fault.now ≡ true → told.RunsOut (K.taken out.old) (K.taken out.new) result }
+    ensures want { told.is_no_memory fault.now ≡ true → told.RunsOut (K.taken out.old) (K.taken out.new) result }
     ensures ends { told.PutsMade (K.taken out.old) (K.taken out.new) (told.object_refusal fault.now) Exit.ObjectRefused result }
     ensures counted { IsSinkCounted (K.faults out.old) (K.faults out.new) result }
 {
-    if is_want(fault) {
+    if is_no_memory(fault) {
         Exit::NoMemory
     } else {
         put_answer(out, object_refusal(alloc, fault))
@@ -107,8 +107,8 @@ pub fn refuse_object<K: Sink>(alloc: Global, fault: &FileFault, out: &mut K) -> 
 }
 
 /// Whether it was memory that was wanting.
-fn is_want(fault: &FileFault) -> bool
-    ensures { result ≡ told.is_want fault.now }
+fn is_no_memory(fault: &FileFault) -> bool
+    ensures { result ≡ told.is_no_memory fault.now }
 {
     match fault {
         FileFault::NoMemory => true,

@@ -18,7 +18,7 @@ pub struct Answer {
 
 impl Answer {
     /// The answer to what was asked, which isn't refused.
-    pub fn done(text: Bytes) -> Answer
+    pub(crate) fn done(text: Bytes) -> Answer
         ensures exit { result.exit ≡ Exit.Done }
         ensures text { result.text ≡ text }
     {
@@ -27,7 +27,7 @@ impl Answer {
     }
 
     /// The same with a text that is always the same.
-    pub fn line(alloc: Global, text: &[u8]) -> Result<Answer, NoMemory>
+    pub(crate) fn line(alloc: Global, text: &[u8]) -> Result<Answer, NoMemory>
         ensures { IfOk result (λ a. told.IsTold Exit.Done text.now a.exit a.text) }
     {
         let text = Bytes::of(alloc, text)?;
@@ -36,7 +36,7 @@ impl Answer {
 }
 
 /// Puts an answer, where there was memory to make it.
-pub fn put_answer<K: Sink>(out: &mut K, answer: Result<Answer, NoMemory>) -> Exit
+pub(crate) fn put_answer<K: Sink>(out: &mut K, answer: Result<Answer, NoMemory>) -> Exit
     requires { IfOk answer (λ a. told.IsEnd a.exit) }
     ensures ends { MatchResult answer (λ a. told.Puts (K.taken out.old) (K.taken out.new) a.text a.exit result) (λ e. told.RunsOut (K.taken out.old) (K.taken out.new) result) }
     ensures later { K.faults out.old ≤ K.faults out.new }
@@ -49,7 +49,7 @@ pub fn put_answer<K: Sink>(out: &mut K, answer: Result<Answer, NoMemory>) -> Exi
 }
 
 /// Puts a text, with the exit that comes with it.
-pub fn put_text<K: Sink>(out: &mut K, text: &[u8], with: Exit) -> Exit
+pub(crate) fn put_text<K: Sink>(out: &mut K, text: &[u8], with: Exit) -> Exit
     requires { told.IsEnd with }
     ensures ends { told.Puts (K.taken out.old) (K.taken out.new) text.now with result }
     ensures later { K.faults out.old ≤ K.faults out.new }
@@ -62,7 +62,7 @@ pub fn put_text<K: Sink>(out: &mut K, text: &[u8], with: Exit) -> Exit
 }
 
 /// A line of a refusal: what is refused, why, and the line's end.
-pub fn refusal_line(alloc: Global, what: &[u8], why: &[u8]) -> Result<Bytes, NoMemory>
+pub(crate) fn refusal_line(alloc: Global, what: &[u8], why: &[u8]) -> Result<Bytes, NoMemory>
     ensures { IfOk result (λ line. line ≡ told.line_of what.now why.now) }
 {
     let mut line = Bytes::of(alloc, what)?;

@@ -6,3 +6,4 @@ pub mod Doing
 pub mod Keeps
 pub mod Begun
 pub mod Recording
+pub mod Entering

@@ -3,3 +3,4 @@ pub mod Boxing
 pub mod Kept
 pub mod Marks
 pub mod Doors
+pub mod Each

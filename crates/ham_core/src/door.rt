@@ -1,6 +1,7 @@
 //! Doors of a node.
 
-ghost use Rattle.std.specs.Prelude.{◌≡◌, ℕ, ◌≤◌, List, Option, Some, IsTrue};
+ghost use Rattle.std.specs.Prelude.{◌≡◌, ℕ, ◌≤◌, [], List, length, Option, Some, IsTrue, vec_capacity};
+ghost use Rattle.std.specs.List.{AllByRecursion};
 ghost use Rattle.ham_syntax.specs.Objects.{Schema};
 ghost use Rattle.ham_plan.specs.Plans.{Plan};
 ghost use Rattle.ham_turns.specs.Settings.{setting_of};
@@ -8,10 +9,13 @@ ghost use Rattle.ham_journal.specs.declared.entry.Entry.{Entry};
 ghost use Rattle.ham_journal.specs.Replies.{MayEnter, IsOfKind, FitsReply};
 ghost use Rattle.ham_bytes.specs.Causes.{Rose};
 ghost use Rattle.ham_core.specs.Doors.{EntersBy, StoppedBy, Moves, Causes};
+ghost use Rattle.ham_core.specs.Each.{EntersEach, standing};
 
+use crate::each::enter_each;
 use crate::guarded::Guarded;
 use crate::seats::{Home, Seat};
 use ham_journal::{Input, Reply};
+use std::collections::VecDeque;
 
 /// A way into a node. It knows of which object, plan and replica the node is, how many entries were made by it, and three
 /// counts, that never fall: of its answers that the node is or was stopped, that it is full, and that a frame was refused. It
@@ -47,6 +51,18 @@ pub trait Door {
         ensures fulls { fulls self.old ≤ fulls self.new }
         ensures refusals { refusals self.old ≤ refusals self.new }
         ensures causes { Causes result (stops self.old) (stops self.new) (fulls self.old) (fulls self.new) (refusals self.old) (refusals self.new) };
+
+    /// Enters inputs in order, as if each were entered by itself, up to and with the first that is replied that the node
+    /// stops or was stopped: whether one was. What isn't entered is left. Nobody else enters between two of them.
+    fn enter_all(&mut self, inputs: &mut VecDeque<Input>, replies: &mut Vec<Reply>) -> bool
+        requires may { AllByRecursion (MayEnter (setting_of (plan self.old)) (me self.old)) inputs.old.items }
+        requires empty { replies.old.items ≡ [] }
+        requires room { length inputs.old.items ≤ vec_capacity replies.old }
+        ensures told { EntersEach (object self.old) (plan self.old) (me self.old) (standing (history self.old) (entries self.old) (stops self.old) (fulls self.old) (refusals self.old))
+            (standing (history self.new) (entries self.new) (stops self.new) (fulls self.new) (refusals self.new)) inputs.old.items inputs.new.items replies.new.items result }
+        ensures object { object self.new ≡ object self.old }
+        ensures plan { plan self.new ≡ plan self.old }
+        ensures me { me self.new ≡ me self.old };
 
     /// Whether the node was stopped. It makes no entry.
     fn stopped(&mut self) -> bool
@@ -137,6 +153,16 @@ impl<L: Home> Door for Local<L> {
         let reply = self.guarded.enter(&mut self.seat, input);
         count(&mut self.tally, &reply);
         reply
+    }
+
+    fn enter_all(&mut self, inputs: &mut VecDeque<Input>, replies: &mut Vec<Reply>) -> bool {
+        enter_each(
+            &mut self.guarded,
+            &mut self.seat,
+            &mut self.tally,
+            inputs,
+            replies,
+        )
     }
 
     fn stopped(&mut self) -> bool {

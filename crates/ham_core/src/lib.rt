@@ -7,6 +7,7 @@
 
 mod boxes;
 pub mod door;
+pub mod each;
 pub mod guarded;
 mod logged;
 mod marks;

@@ -1,7 +1,8 @@
 -- What words stand for, in both forms of object files: none where a word stands for nothing.
 use Rattle.std.specs.Prelude.{◌≡◌, ℕ, ◌-◌, ◌^◌, ◌==◌, ◌&&◌, nat_lt, nat_le, nat_eq, pos, negsuc, ℤ, Bool, true, false, List, [], ◌∷◌, Option, Some, None, Result, Ok, Err, option_map, option_and_then, if◌then◌else◌, codes}
 use Rattle.std.specs.Cmp.Lexicographic.{pointwise}
-use Rattle.ham_text.specs.Numbers.{number_of}
+use Rattle.ham_text.specs.Numbers.{number_of, ◌>>=◌}
+use Rattle.ham_text.specs.Words.{if_word}
 use Rattle.ham_syntax.specs.declared.object.Kind.{Kind}
 use Rattle.ham_syntax.specs.declared.object.Kind.TheVariants.{Id, Amount}
 use Rattle.ham_check.specs.declared.raw.Verb.{Verb}
@@ -14,24 +15,11 @@ use Rattle.ham_forms.specs.declared.fault.Unread.TheVariants as unread
 use Rattle.ham_forms.specs.declared.words.InvariantKind.{InvariantKind}
 use Rattle.ham_forms.specs.declared.words.InvariantKind.TheVariants as kinds
 
--- what comes after a step, where it finds something
-infixl 10 ◌>>=◌
-abbrev pub ◌>>=◌ : {A B : Type 0} → Option A → (A → Option B) → Option B
-o >>= f = option_and_then f o
-
 -- an answer is what is found, and a refusal comes where nothing is found; memory may run out
 abbrev pub Finds : {A : Type 0} → Result A Unread → Option A → Type 0
 Finds (Ok x) found = found ≡ Some x
 Finds (Err unread.Nothing) found = found ≡ None
 Finds (Err unread.NoMemory) found = Unit {0}
-
--- whether two texts are one
-abbrev pub is_text : List ℕ → List ℕ → Bool
-is_text text word = pointwise nat_eq text word
-
--- x, if the word is this one, or else what comes after
-abbrev pub if_word : {A : Type 0} → List ℕ → List ℕ → A → Option A → Option A
-if_word word text x others = if is_text word text then Some x else others
 
 -- whether a counter is keyed
 unfoldable pub keyed_of : List ℕ → Option Bool

@@ -7,6 +7,7 @@ use ham_check::{RawTerm, Verb};
 use ham_syntax::{Kind, Name};
 use ham_text::number;
 
+/// Whether a counter is keyed: `plain` or `keyed`.
 #[tactic(auto, unfolding(crate::specs::Words::keyed_of))]
 pub fn read_keyed(word: &[u8]) -> Option<bool>
     ensures { result ≡ read.keyed_of word.now }
@@ -20,6 +21,7 @@ pub fn read_keyed(word: &[u8]) -> Option<bool>
     }
 }
 
+/// What a parameter is: `id` or `amount`.
 #[tactic(auto, unfolding(crate::specs::Words::kind_of))]
 pub fn read_kind(word: &[u8]) -> Option<Kind>
     ensures { result ≡ read.kind_of word.now }
@@ -33,6 +35,7 @@ pub fn read_kind(word: &[u8]) -> Option<Kind>
     }
 }
 
+/// What a guard asks or an effect does: one of the eight verbs.
 #[tactic(auto, unfolding(crate::specs::Words::verb_of))]
 pub fn read_verb(word: &[u8]) -> Option<Verb>
     ensures { result ≡ read.verb_of word.now }
@@ -67,6 +70,7 @@ pub enum InvariantKind {
     High,
 }
 
+/// Which invariant: `reference`, `unique`, `low` or `high`.
 #[tactic(auto, unfolding(crate::specs::Words::invariant_kind_of))]
 pub fn read_invariant_kind(word: &[u8]) -> Option<InvariantKind>
     ensures { result ≡ read.invariant_kind_of word.now }
@@ -84,6 +88,7 @@ pub fn read_invariant_kind(word: &[u8]) -> Option<InvariantKind>
     }
 }
 
+/// A term: a parameter's name, `_`, or `#` and a number.
 #[tactic(auto, unfolding(crate::specs::Words::term_of))]
 pub fn read_term(word: &[u8]) -> Option<RawTerm>
     ensures { result ≡ read.term_of word.now }
@@ -104,6 +109,7 @@ fn read_constant(word: &[u8]) -> Option<RawTerm>
     }
 }
 
+/// A limit: a number of 64 bits, with `-` before it where it is negative.
 #[tactic(auto, unfolding(crate::specs::Words::limit_of))]
 pub fn read_limit(word: &[u8]) -> Option<i64>
     ensures { result ≡ read.limit_of word.now }

@@ -9,15 +9,17 @@ use Rattle.ham_text.specs.Numbers.{number_first, numbers_within}
 use Rattle.ham_text.specs.Written.{IsWord, AreWords}
 use Rattle.ham_text.proofs.Wording.{decimal_word}
 use Rattle.ham_text.proofs.Several.{first_spelled, first_read, within_spelled, within_read}
+use Rattle.ham_text.specs.Words.{if_word}
+use Rattle.ham_text.proofs.Choices.{chosen, steps, mapped, pick_spelled}
 use Rattle.ham_lines.specs.Reading.{one_number, two_numbers, three_numbers, act_of, counter_of, relation_of}
 use Rattle.ham_lines.specs.Named.{act_words, counter_words}
-use Rattle.ham_lines.proofs.Spelled.{steps, maps, chosen, name_word, numbers_words, act_are_words, counter_are_words, one_spelled, two_spelled, three_spelled, one_read, two_read, three_read, act_spelled, act_read, counter_spelled, counter_read, relation_spelled, relation_read}
+use Rattle.ham_lines.proofs.Spelled.{name_word, numbers_words, act_are_words, counter_are_words, one_spelled, two_spelled, three_spelled, one_read, two_read, three_read, act_spelled, act_read, counter_spelled, counter_read, relation_spelled, relation_read}
 use Rattle.ham_grammar.specs.declared.verb.Verb.{Verb}
 use Rattle.ham_grammar.specs.declared.verb.Verb.TheVariants as verbs
 use Rattle.ham_grammar.specs.declared.written.Written.{Written}
 use Rattle.ham_grammar.specs.declared.written.Written.TheVariants.{Replicas, Issue, Deliver, Pieces, Torn, Tick, Show, Rows, Log, Verdict, Sent, Frame, Compare}
 use Rattle.ham_grammar.specs.Lines.{written_words, IsWritten}
-use Rattle.ham_grammar.specs.Reading.{if_word, verb_of, count_of, replicas_found, issue_found, deliver_found, pieces_found, torn_found, tick_found, show_found, rows_found, log_found, verdict_found, sent_found, frame_found, compare_found, written_after, written_of}
+use Rattle.ham_grammar.specs.Reading.{verb_of, count_of, replicas_found, issue_found, deliver_found, pieces_found, torn_found, tick_found, show_found, rows_found, log_found, verdict_found, sent_found, frame_found, compare_found, written_after, written_of}
 
 -- ---- verbs
 
@@ -36,16 +38,9 @@ verb_word verbs.Sent = codes "sent"
 verb_word verbs.Frame = codes "frame"
 verb_word verbs.Compare = codes "compare"
 
-either : {A : Type 0} (b : Bool) (a x : A) (o : Option A) → cond b (Some a) o ≡ Some x → ((b ≡ true) × (a ≡ x)) ⊎ (o ≡ Some x)
-either true a x o e = inl (refl, same_Some a x e)
-either false a x o e = inr e
-
 -- a verb that is chosen for a word is the one of this word
 pick : (w : List ℕ) (v x : Verb) (others : Option Verb) → (others ≡ Some x → w ≡ verb_word x) → if_word w (verb_word v) v others ≡ Some x → w ≡ verb_word x
-pick w v x others more e = elim (either (pointwise nat_eq w (verb_word v)) v x others e) [
-  | inl p ↦ same_text w (verb_word v) (sym p.0) ∙ ap verb_word p.1
-  | inr h ↦ more h
-]
+pick w v x others more e = pick_spelled verb_word w (verb_word v) v x others refl more e
 
 none : (w : List ℕ) (x : Verb) → None ≡ Some x → w ≡ verb_word x
 none w x e = absurd (none-some x e)
@@ -84,7 +79,7 @@ issue_spelt : (ws : List (List ℕ)) (w : Written) → issue_found ws ≡ Some w
 issue_spelt ws w e =
     let s = steps (number_first ws) (λ p. option_map (Issue p.0) (act_of p.1)) w e in
     let r = first_spelled ws s.0 s.1 in
-    let t = maps (act_of s.0.1) (Issue s.0.0) w s.2 in
+    let t = mapped (act_of s.0.1) (Issue s.0.0) w s.2 in
     let a = act_spelled s.0.1 t.0 t.1 in
     subst (After (codes "issue") ws) t.2 ((r.small, a.0), ap (λ u. codes "issue" ∷ u) r.words ∙ ap (λ u. codes "issue" ∷ decimal s.0.0 ∷ u) a.1)
 
@@ -92,7 +87,7 @@ show_spelt : (ws : List (List ℕ)) (w : Written) → show_found ws ≡ Some w �
 show_spelt ws w e =
     let s = steps (number_first ws) (λ p. option_map (Show p.0) (counter_of p.1)) w e in
     let r = first_spelled ws s.0 s.1 in
-    let t = maps (counter_of s.0.1) (Show s.0.0) w s.2 in
+    let t = mapped (counter_of s.0.1) (Show s.0.0) w s.2 in
     let a = counter_spelled s.0.1 t.0 t.1 in
     subst (After (codes "show") ws) t.2 ((r.small, a.0), ap (λ u. codes "show" ∷ u) r.words ∙ ap (λ u. codes "show" ∷ decimal s.0.0 ∷ u) a.1)
 
@@ -100,49 +95,49 @@ rows_spelt : (ws : List (List ℕ)) (w : Written) → rows_found ws ≡ Some w �
 rows_spelt ws w e =
     let s = steps (number_first ws) (λ p. option_map (Rows p.0) (relation_of p.1)) w e in
     let r = first_spelled ws s.0 s.1 in
-    let t = maps (relation_of s.0.1) (Rows s.0.0) w s.2 in
+    let t = mapped (relation_of s.0.1) (Rows s.0.0) w s.2 in
     let a = relation_spelled s.0.1 t.0 t.1 in
     subst (After (codes "rows") ws) t.2 ((r.small, a.0), ap (λ u. codes "rows" ∷ u) r.words ∙ ap (λ u. codes "rows" ∷ decimal s.0.0 ∷ u) a.1)
 
 deliver_spelt : (ws : List (List ℕ)) (w : Written) → deliver_found ws ≡ Some w → After (codes "deliver") ws w
 deliver_spelt ws w e =
-    let t = maps (three_numbers ws) (λ p. Deliver p.0 p.1 p.2) w e in
+    let t = mapped (three_numbers ws) (λ p. Deliver p.0 p.1 p.2) w e in
     let n = three_spelled ws t.0 t.1 in
     subst (After (codes "deliver") ws) t.2 (n.numbers, ap (λ u. codes "deliver" ∷ u) n.words)
 
 verdict_spelt : (ws : List (List ℕ)) (w : Written) → verdict_found ws ≡ Some w → After (codes "verdict") ws w
 verdict_spelt ws w e =
-    let t = maps (three_numbers ws) (λ p. Verdict p.0 p.1 p.2) w e in
+    let t = mapped (three_numbers ws) (λ p. Verdict p.0 p.1 p.2) w e in
     let n = three_spelled ws t.0 t.1 in
     subst (After (codes "verdict") ws) t.2 (n.numbers, ap (λ u. codes "verdict" ∷ u) n.words)
 
 frame_spelt : (ws : List (List ℕ)) (w : Written) → frame_found ws ≡ Some w → After (codes "frame") ws w
 frame_spelt ws w e =
-    let t = maps (three_numbers ws) (λ p. Frame p.0 p.1 p.2) w e in
+    let t = mapped (three_numbers ws) (λ p. Frame p.0 p.1 p.2) w e in
     let n = three_spelled ws t.0 t.1 in
     subst (After (codes "frame") ws) t.2 (n.numbers, ap (λ u. codes "frame" ∷ u) n.words)
 
 sent_spelt : (ws : List (List ℕ)) (w : Written) → sent_found ws ≡ Some w → After (codes "sent") ws w
 sent_spelt ws w e =
-    let t = maps (two_numbers ws) (λ p. Sent p.0 p.1) w e in
+    let t = mapped (two_numbers ws) (λ p. Sent p.0 p.1) w e in
     let n = two_spelled ws t.0 t.1 in
     subst (After (codes "sent") ws) t.2 (n.numbers, ap (λ u. codes "sent" ∷ u) n.words)
 
 compare_spelt : (ws : List (List ℕ)) (w : Written) → compare_found ws ≡ Some w → After (codes "compare") ws w
 compare_spelt ws w e =
-    let t = maps (two_numbers ws) (λ p. Compare p.0 p.1) w e in
+    let t = mapped (two_numbers ws) (λ p. Compare p.0 p.1) w e in
     let n = two_spelled ws t.0 t.1 in
     subst (After (codes "compare") ws) t.2 (n.numbers, ap (λ u. codes "compare" ∷ u) n.words)
 
 tick_spelt : (ws : List (List ℕ)) (w : Written) → tick_found ws ≡ Some w → After (codes "tick") ws w
 tick_spelt ws w e =
-    let t = maps (one_number ws) Tick w e in
+    let t = mapped (one_number ws) Tick w e in
     let n = one_spelled ws t.0 t.1 in
     subst (After (codes "tick") ws) t.2 (n.numbers.0, ap (λ u. codes "tick" ∷ u) n.words)
 
 log_spelt : (ws : List (List ℕ)) (w : Written) → log_found ws ≡ Some w → After (codes "log") ws w
 log_spelt ws w e =
-    let t = maps (one_number ws) Log w e in
+    let t = mapped (one_number ws) Log w e in
     let n = one_spelled ws t.0 t.1 in
     subst (After (codes "log") ws) t.2 (n.numbers.0, ap (λ u. codes "log" ∷ u) n.words)
 
@@ -150,7 +145,7 @@ torn_spelt : (ws : List (List ℕ)) (w : Written) → torn_found ws ≡ Some w �
 torn_spelt ws w e =
     let s = steps (number_first ws) (λ f. option_map (λ p. Torn f.0 p.0 p.1 p.2) (three_numbers f.1)) w e in
     let r = first_spelled ws s.0 s.1 in
-    let t = maps (three_numbers s.0.1) (λ p. Torn s.0.0 p.0 p.1 p.2) w s.2 in
+    let t = mapped (three_numbers s.0.1) (λ p. Torn s.0.0 p.0 p.1 p.2) w s.2 in
     let n = three_spelled s.0.1 t.0 t.1 in
     subst (After (codes "torn") ws) t.2 ((r.small, n.numbers), ap (λ u. codes "torn" ∷ u) r.words ∙ ap (λ u. codes "torn" ∷ decimal s.0.0 ∷ u) n.words)
 
@@ -160,7 +155,7 @@ pieces_spelt ws w e =
     let t = steps (number_first f.0.1) (λ t. option_and_then (λ k. option_and_then (λ l. option_map (Pieces f.0.0 t.0 k.0 l.0) (numbers_within 64 l.1)) (number_first k.1)) (number_first t.1)) w f.2 in
     let k = steps (number_first t.0.1) (λ k. option_and_then (λ l. option_map (Pieces f.0.0 t.0.0 k.0 l.0) (numbers_within 64 l.1)) (number_first k.1)) w t.2 in
     let l = steps (number_first k.0.1) (λ l. option_map (Pieces f.0.0 t.0.0 k.0.0 l.0) (numbers_within 64 l.1)) w k.2 in
-    let c = maps (numbers_within 64 l.0.1) (Pieces f.0.0 t.0.0 k.0.0 l.0.0) w l.2 in
+    let c = mapped (numbers_within 64 l.0.1) (Pieces f.0.0 t.0.0 k.0.0 l.0.0) w l.2 in
     let a = first_spelled ws f.0 f.1 in
     let b = first_spelled f.0.1 t.0 t.1 in
     let d = first_spelled t.0.1 k.0 k.1 in

@@ -3,6 +3,7 @@
 use Rattle.std.specs.Prelude.{◌≡◌, ℕ, nat_le, nat_eq, ◌&&◌, List, [], ◌∷◌, Option, Some, None, Result, Ok, Err, option_map, if◌then◌else◌, codes}
 use Rattle.std.specs.Cmp.Lexicographic.{pointwise}
 use Rattle.ham_text.specs.Numbers.{number_first, numbers_within, ◌>>=◌}
+use Rattle.ham_text.specs.Words.{if_word}
 use Rattle.ham_syntax.specs.declared.limits.TheConstants.{MAX_REPLICAS, MAX_CUTS}
 use Rattle.ham_lines.specs.declared.fault.LineFault.{LineFault}
 use Rattle.ham_lines.specs.declared.fault.LineFault.TheVariants.{NotALine, UnknownName, BadKey, NoMemory}
@@ -19,10 +20,6 @@ IsFoundAs found (Err NotALine) = found ≡ None
 IsFoundAs found (Err UnknownName) = ⊥
 IsFoundAs found (Err BadKey) = ⊥
 IsFoundAs found (Err NoMemory) = Unit {0}
-
--- x, if the word is this one, or else what comes after
-abbrev pub if_word : {A : Type 0} → List ℕ → List ℕ → A → Option A → Option A
-if_word word text x others = if pointwise nat_eq word text then Some x else others
 
 unfoldable pub verb_of : List ℕ → Option Verb
 verb_of word =

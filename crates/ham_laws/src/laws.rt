@@ -1,4 +1,7 @@
 //! What is true of every well-coordinated execution under a sound plan.
+//!
+//! Each law is stated of the meaning of every checked object, and of two meanings that are no object's, a register and a
+//! purse: so that a reader sees it hold where all of it can be worked out by hand, and that it speaks of more than objects.
 
 ghost use Rattle.std.specs.Prelude.{◌≡◌, length};
 ghost use Rattle.ham_syntax.specs.Objects.{Schema};

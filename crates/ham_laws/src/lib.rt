@@ -7,7 +7,7 @@
 #![tactic(auto)]
 
 pub mod bank;
+pub mod counterexamples;
 pub mod laws;
 pub mod moves;
-pub mod sharp;
 pub mod turns;

@@ -4,6 +4,7 @@ use Rattle.std.specs.Prelude.{nat_eq, option_map, codes}
 use Rattle.std.specs.Cmp.Lexicographic.{pointwise, same_text}
 use Rattle.std.proofs.lemmas.Option.{same_Some, none-some}
 use Rattle.ham_text.specs.Cuts.{words_of}
+use Rattle.ham_text.proofs.Choices.{branch, mapped}
 use Rattle.ham_syntax.specs.declared.act.Act.{Act}
 use Rattle.ham_syntax.specs.Objects.{Schema, relation_named}
 use Rattle.ham_syntax.specs.Checked.{IsChecked}
@@ -19,7 +20,7 @@ use Rattle.ham_lines.specs.Named.{act_meant, counter_meant}
 use Rattle.ham_lines.specs.Reading.{two_numbers, act_of, counter_of, relation_of}
 use Rattle.ham_lines.specs.Clients.{client_words, IsClientWritten, IsClientSpelling, client_written, IsOfObject, ClientSpells, NamesUnknown, HasWrongKey, IsClientWrong, ClientSpellsWrong, ClientFails, IsClientReading}
 use Rattle.ham_lines.specs.ClientReading.{if_verb, verdict_of, single_of, client_of, issue_by, show_by, rows_by, client_meant}
-use Rattle.ham_lines.proofs.Spelled.{maps, two_spelled, two_read, act_spelled, act_read, counter_spelled, counter_read, relation_spelled, relation_read}
+use Rattle.ham_lines.proofs.Spelled.{two_spelled, two_read, act_spelled, act_read, counter_spelled, counter_read, relation_spelled, relation_read}
 use Rattle.ham_lines.proofs.Meant.{act_is, act_unknown, act_untold, act_back, counter_means, counter_unmeant, counter_untold, key_untold, shown_back, relation_is, relation_back}
 
 -- ---- what words spell
@@ -28,13 +29,9 @@ pub record Spelt (words : List (List ℕ)) (w : ClientWritten) : Type 0 where
   pub is_written : IsClientWritten w
   pub words_are : words ≡ client_words w
 
-either : {A : Type 0} (b : Bool) (found others : Option A) (w : A) → cond b found others ≡ Some w → ((b ≡ true) × (found ≡ Some w)) ⊎ (others ≡ Some w)
-either true found others w e = inl (refl, e)
-either false found others w e = inr e
-
 pick : (verb text : List ℕ) (ws : List (List ℕ)) (found others : Option ClientWritten) (w : ClientWritten) → (found ≡ Some w → Spelt (text ∷ ws) w) → (others ≡ Some w → Spelt (verb ∷ ws) w)
     → if_verb verb text found others ≡ Some w → Spelt (verb ∷ ws) w
-pick verb text ws found others w here more e = elim (either (pointwise nat_eq verb text) found others w e) [
+pick verb text ws found others w here more e = elim (branch (pointwise nat_eq verb text) found others w e) [
   | inl p ↦ subst (λ (v : List ℕ). Spelt (v ∷ ws) w) (sym (same_text verb text (sym p.0))) (here p.1)
   | inr h ↦ more h
 ]
@@ -47,25 +44,25 @@ bare text v w h e = subst (Spelt (text ∷ [])) (same_Some v w e) h
 
 issue_spelt : (ws : List (List ℕ)) (w : ClientWritten) → option_map Issue (act_of ws) ≡ Some w → Spelt (codes "issue" ∷ ws) w
 issue_spelt ws w e =
-    let t = maps (act_of ws) Issue w e in
+    let t = mapped (act_of ws) Issue w e in
     let a = act_spelled ws t.0 t.1 in
     subst (Spelt (codes "issue" ∷ ws)) t.2 (record { is_written = a.0; words_are = ap (λ u. codes "issue" ∷ u) a.1 })
 
 show_spelt : (ws : List (List ℕ)) (w : ClientWritten) → option_map Show (counter_of ws) ≡ Some w → Spelt (codes "show" ∷ ws) w
 show_spelt ws w e =
-    let t = maps (counter_of ws) Show w e in
+    let t = mapped (counter_of ws) Show w e in
     let a = counter_spelled ws t.0 t.1 in
     subst (Spelt (codes "show" ∷ ws)) t.2 (record { is_written = a.0; words_are = ap (λ u. codes "show" ∷ u) a.1 })
 
 rows_spelt : (ws : List (List ℕ)) (w : ClientWritten) → option_map Rows (relation_of ws) ≡ Some w → Spelt (codes "rows" ∷ ws) w
 rows_spelt ws w e =
-    let t = maps (relation_of ws) Rows w e in
+    let t = mapped (relation_of ws) Rows w e in
     let a = relation_spelled ws t.0 t.1 in
     subst (Spelt (codes "rows" ∷ ws)) t.2 (record { is_written = a.0; words_are = ap (λ u. codes "rows" ∷ u) a.1 })
 
 verdict_spelt : (ws : List (List ℕ)) (w : ClientWritten) → verdict_of ws ≡ Some w → Spelt (codes "verdict" ∷ ws) w
 verdict_spelt ws w e =
-    let t = maps (two_numbers ws) (λ p. Verdict p.0 p.1) w e in
+    let t = mapped (two_numbers ws) (λ p. Verdict p.0 p.1) w e in
     let n = two_spelled ws t.0 t.1 in
     subst (Spelt (codes "verdict" ∷ ws)) t.2 (record { is_written = n.numbers; words_are = ap (λ u. codes "verdict" ∷ u) n.words })
 

@@ -3,6 +3,7 @@ use Rattle.std.proofs.Common.{◌≡◌, ℕ, ◌<◌, Bool, true, false, List, 
 use Rattle.std.specs.Prelude.{nat_eq, position, slice_get, option_map}
 use Rattle.std.specs.Cmp.Lexicographic.{pointwise}
 use Rattle.std.proofs.lemmas.Option.{none-some}
+use Rattle.ham_text.proofs.Choices.{mapped}
 use Rattle.ham_syntax.specs.declared.act.Act.{Act}
 use Rattle.ham_syntax.specs.Objects.{Schema, name_by, method_name, relation_named, counter_named, method_named}
 use Rattle.ham_syntax.specs.Checked.{IsChecked}
@@ -12,7 +13,6 @@ use Rattle.ham_lines.specs.declared.fault.LineFault.TheVariants.{NotALine, Unkno
 use Rattle.ham_lines.specs.declared.named.NamedAct.{NamedAct}
 use Rattle.ham_lines.specs.declared.named.NamedCounter.{NamedCounter}
 use Rattle.ham_lines.specs.Named.{counter_name, relation_name, is_keyed, key_written, act_named, counter_shown, act_meant, with_key, key_meant, counter_meant, IsKeyOf, IsWrongKey}
-use Rattle.ham_lines.proofs.Spelled.{maps}
 
 -- the entry that is found exists, and has the name
 pub record IsNamed {A : Type 0} (name : A → List ℕ) (xs : List A) (word : List ℕ) (k : ℕ) : Type 0 where
@@ -49,7 +49,7 @@ pub record MeansAct (o : Schema) (a : NamedAct) (act : Act) : Type 0 where
 pub act_is : (o : Schema) (a : NamedAct) (act : Act) → act_meant o a ≡ Some act → MeansAct o a act
 unfolding act_meant
 act_is o a act e =
-    let t = maps (method_named o a.method) (λ m. record { method = m; args = a.args }) act e in
+    let t = mapped (method_named o a.method) (λ m. record { method = m; args = a.args }) act e in
     let m = method_is o a.method t.0 t.1 in
     subst (MeansAct o a) t.2 (record { exists = m.exists; same = ap (λ name. record { method = name; args = a.args }) m.is_word })
 

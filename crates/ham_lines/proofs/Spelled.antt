@@ -7,26 +7,13 @@ use Rattle.ham_text.specs.Numbers.{number_first, numbers_within, AreNumbers}
 use Rattle.ham_text.specs.Written.{IsWord, AreWords}
 use Rattle.ham_text.proofs.Wording.{decimal_word}
 use Rattle.ham_text.proofs.Several.{Spelled, first_spelled, first_read, within_spelled, within_read}
+use Rattle.ham_text.proofs.Choices.{chosen, steps, mapped}
 use Rattle.ham_syntax.specs.Names.{is_name}
 use Rattle.ham_syntax.proofs.Solid.{name_solid}
 use Rattle.ham_lines.specs.declared.named.NamedAct.{NamedAct}
 use Rattle.ham_lines.specs.declared.named.NamedCounter.{NamedCounter}
 use Rattle.ham_lines.specs.Named.{key_words, act_words, counter_words, IsNamedAct, IsNamedCounter}
 use Rattle.ham_lines.specs.Reading.{alone, one_number, two_numbers, three_numbers, name_of, named_act, named_counter, act_of, key_of, counter_of, relation_of}
-
--- ---- steps
-
-pub steps : {A B : Type 0} (o : Option A) (f : A → Option B) (y : B) → option_and_then f o ≡ Some y → (x : A) × (o ≡ Some x) × (f x ≡ Some y)
-steps (Some x) f y e = (x, refl, e)
-steps None f y e = absurd (none-some y e)
-
-pub maps : {A B : Type 0} (o : Option A) (f : A → B) (y : B) → option_map f o ≡ Some y → (x : A) × (o ≡ Some x) × (f x ≡ y)
-maps (Some x) f y e = (x, refl, same_Some (f x) y e)
-maps None f y e = absurd (none-some y e)
-
-pub chosen : {A : Type 0} (b : Bool) (x y : A) → cond b (Some x) None ≡ Some y → (b ≡ true) × (x ≡ y)
-chosen true x y e = (refl, same_Some x y e)
-chosen false x y e = absurd (none-some y e)
 
 -- ---- words
 
@@ -72,14 +59,14 @@ one_spelled ws n e =
 pub two_spelled : (ws : List (List ℕ)) (p : ℕ × ℕ) → two_numbers ws ≡ Some p → Numbers ws (p.0 ∷ p.1 ∷ [])
 two_spelled ws p e =
     let s = steps (number_first ws) (λ p. option_map (λ b. (p.0, b)) (one_number p.1)) p e in
-    let t = maps (one_number s.0.1) (λ b. (s.0.0, b)) p s.2 in
+    let t = mapped (one_number s.0.1) (λ b. (s.0.0, b)) p s.2 in
     let all = more ws s.0.0 s.0.1 (t.0 ∷ []) (first_spelled ws s.0 s.1) (one_spelled s.0.1 t.0 t.1) in
     subst (λ (q : ℕ × ℕ). Numbers ws (q.0 ∷ q.1 ∷ [])) t.2 all
 
 pub three_spelled : (ws : List (List ℕ)) (p : ℕ × ℕ × ℕ) → three_numbers ws ≡ Some p → Numbers ws (p.0 ∷ p.1 ∷ p.2 ∷ [])
 three_spelled ws p e =
     let s = steps (number_first ws) (λ p. option_map (λ q. (p.0, q.0, q.1)) (two_numbers p.1)) p e in
-    let t = maps (two_numbers s.0.1) (λ q. (s.0.0, q.0, q.1)) p s.2 in
+    let t = mapped (two_numbers s.0.1) (λ q. (s.0.0, q.0, q.1)) p s.2 in
     let all = more ws s.0.0 s.0.1 (t.0.0 ∷ t.0.1 ∷ []) (first_spelled ws s.0 s.1) (two_spelled s.0.1 t.0 t.1) in
     subst (λ (q : ℕ × ℕ × ℕ). Numbers ws (q.0 ∷ q.1 ∷ q.2 ∷ [])) t.2 all
 
@@ -114,7 +101,7 @@ act_spelled (w ∷ ws) a e =
     let s = steps (name_of w) (λ name. option_map (named_act name) (numbers_within 6 ws)) a e in
     let n = name_is w s.0 s.1 in
     let same = n.0 in
-    let t = maps (numbers_within 6 ws) (named_act s.0) a s.2 in
+    let t = mapped (numbers_within 6 ws) (named_act s.0) a s.2 in
     let all = within_spelled 6 ws t.0 t.1 in
     let rest = all.words in
     let found : SpellsAct (w ∷ ws) (named_act s.0 t.0) = (record { is_named = n.1; few = all.few; numbers = all.numbers }, cc) in
@@ -136,7 +123,7 @@ record SpellsKey (ws : List (List ℕ)) (key : Option ℕ) : Type 0 where
 key_spelled : (ws : List (List ℕ)) (key : Option ℕ) → key_of ws ≡ Some key → SpellsKey ws key
 key_spelled [] key e = subst (SpellsKey []) (same_Some None key e) (record { small = tt; words = refl })
 key_spelled (w ∷ ws) key e =
-    let t = maps (one_number (w ∷ ws)) Some key e in
+    let t = mapped (one_number (w ∷ ws)) Some key e in
     let n = one_spelled (w ∷ ws) t.0 t.1 in
     let found : SpellsKey (w ∷ ws) (Some t.0) = record { small = n.numbers.0; words = n.words } in
     subst (SpellsKey (w ∷ ws)) t.2 found
@@ -152,7 +139,7 @@ counter_spelled (w ∷ ws) c e =
     let s = steps (name_of w) (λ name. option_map (named_counter name) (key_of ws)) c e in
     let n = name_is w s.0 s.1 in
     let same = n.0 in
-    let t = maps (key_of ws) (named_counter s.0) c s.2 in
+    let t = mapped (key_of ws) (named_counter s.0) c s.2 in
     let key = key_spelled ws t.0 t.1 in
     let rest = key.words in
     let found : SpellsCounter (w ∷ ws) (named_counter s.0 t.0) = (record { is_named = n.1; key = key.small }, cc) in

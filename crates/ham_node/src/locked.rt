@@ -1,13 +1,17 @@
 //! The door with the lock, and how feeders sleep until a frame waits for them.
 
-ghost use Rattle.std.specs.Prelude.{◌≡◌, None};
+ghost use Rattle.std.specs.Prelude.{◌≡◌, ◌≤◌, [], length, None, vec_capacity};
+ghost use Rattle.std.specs.List.{AllByRecursion};
 ghost use Rattle.ham_turns.specs.Settings.{setting_of};
 ghost use Rattle.ham_journal.specs.Replies.{MayEnter, IsOfKind, FitsReply};
 ghost use Rattle.ham_core.specs.Doors.{Moves};
+ghost use Rattle.ham_core.specs.Each.{EntersEach, standing};
 
 use ham_core::door::{Tally, count};
+use ham_core::each::enter_each;
 use ham_core::{Door, Guarded, Home, Input, Reply, Seat};
 use ham_links::Clock;
+use std::collections::VecDeque;
 use std::hint::spin_loop;
 use std::sync::{Condvar, Mutex, MutexGuard, Wait};
 
@@ -112,6 +116,31 @@ fn enter_locked<R: Wait, L: Home>(
     reply
 }
 
+/// Enters inputs in order by one taking of the lock, and rings once it is let go.
+fn enter_all_locked<R: Wait, L: Home>(
+    rt: &R,
+    lock: &Mutex<Guarded<L>>,
+    bells: &Bells,
+    seat: &mut Seat<L>,
+    tally: &mut Tally,
+    inputs: &mut VecDeque<Input>,
+    replies: &mut Vec<Reply>,
+) -> bool
+    requires may { AllByRecursion (MayEnter (setting_of L.plan) L.me) inputs.old.items }
+    requires empty { replies.old.items ≡ [] }
+    requires room { length inputs.old.items ≤ vec_capacity replies.old }
+    ensures told { EntersEach L.object L.plan L.me (standing None seat.old.share.amount tally.old.stops tally.old.fulls tally.old.refusals)
+        (standing None seat.new.share.amount tally.new.stops tally.new.fulls tally.new.refusals) inputs.old.items inputs.new.items replies.new.items result }
+    ensures number { seat.new.number ≡ seat.old.number }
+{
+    let mut guard = take(rt, lock);
+    let stopped = enter_each(&mut *guard, seat, tally, inputs, replies);
+    let due = due(&mut *guard);
+    drop(guard);
+    bells.ring(due);
+    stopped
+}
+
 /// A door that shares its node with others. It tells no journal, since others enter too; it tells how many entries it made.
 #[derive(Drop)]
 pub struct Locked<'a, R: Wait, L: Home> {
@@ -184,6 +213,21 @@ impl<'a, R: Wait, L: Home> Door for Locked<'a, R, L> {
         let reply = enter_locked(self.rt, self.lock, self.bells, &mut self.seat, input);
         count(&mut self.tally, &reply);
         reply
+    }
+
+    fn enter_all(&mut self, inputs: &mut VecDeque<Input>, replies: &mut Vec<Reply>) -> bool {
+        if inputs.is_empty() {
+            return false;
+        }
+        enter_all_locked(
+            self.rt,
+            self.lock,
+            self.bells,
+            &mut self.seat,
+            &mut self.tally,
+            inputs,
+            replies,
+        )
     }
 
     fn stopped(&mut self) -> bool {

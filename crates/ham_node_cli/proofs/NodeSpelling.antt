@@ -4,13 +4,14 @@ use Rattle.std.specs.Prelude.{nat_le, option_and_then, option_map, MatchOption, 
 use Rattle.std.specs.List.{list_all, AllByRecursion}
 use Rattle.std.specs.Str.{bytes_eq, is_utf8}
 use Rattle.std.specs.Fmt.{decimal}
-use Rattle.std.proofs.lemmas.Bool.{leb-true, le-leb}
+use Rattle.std.proofs.lemmas.Bool.{leb-true, le-leb, and_parts}
 use Rattle.std.proofs.lemmas.List.{length-map}
+use Rattle.std.proofs.lemmas.Option.{same_Some}
 use Rattle.ham_syntax.specs.declared.limits.TheConstants.{MAX_REPLICAS}
 use Rattle.ham_text.specs.Numbers.{number_of}
 use Rattle.ham_text.proofs.Wording.{decimal_read}
 use Rattle.ham_text.proofs.Several.{number_spelled}
-use Rattle.ham_forms.proofs.Choices.{both, same_some, only, steps, mapped, text_is}
+use Rattle.ham_text.proofs.Choices.{only, steps, mapped, text_is}
 use Rattle.ham_bytes.specs.declared.shelf.File.{File}
 use Rattle.ham_workers.specs.declared.base.TheConstants.{MIN_BASE, MAX_BASE}
 use Rattle.ham_node_cli.specs.declared.words.NodeCommand.{NodeCommand}
@@ -22,8 +23,8 @@ use Rattle.ham_node_cli.specs.NodeReading as reading
 within_is : (low high n k : ℕ) → reading.within low high n ≡ Some k → (n ≡ k) × ((low ≤ k) × (k ≤ high))
 within_is low high n k e =
     let c = only (nat_le low n && nat_le n high) (Some n) k e in
-    let b = both (nat_le low n) (nat_le n high) c.0 in
-    let same : n ≡ k = same_some n k c.1 in
+    let b = and_parts (nat_le low n) (nat_le n high) c.0 in
+    let same : n ≡ k = same_Some n k c.1 in
     (same, subst (λ x. (low ≤ x) × (x ≤ high)) same (leb-true low n b.0, leb-true n high b.1))
 
 me_spelled : (w : List ℕ) (n m : ℕ) → reading.me_of w n ≡ Some m → (w ≡ decimal m) × ((1 ≤ m) × (m ≤ n))
@@ -50,7 +51,7 @@ cons x y xs ys e f = cc
 bases_spelled : (ws : List (List ℕ)) → reading.are_bases ws ≡ true → (ws ≡ map decimal (map reading.base_in ws)) × AllByRecursion IsBase (map reading.base_in ws)
 bases_spelled [] e = (refl, tt)
 bases_spelled (w ∷ ws) e =
-    let b = both (reading.is_base w) (reading.are_bases ws) e in
+    let b = and_parts (reading.is_base w) (reading.are_bases ws) e in
     let here = base_spelled w b.0 in
     let rest = bases_spelled ws b.1 in
     (cons w (decimal (reading.base_in w)) ws (map decimal (map reading.base_in ws)) here.0 rest.0, (here.1, rest.1))
@@ -66,7 +67,7 @@ rest_spelled : (object me : List ℕ) (bases : List (List ℕ)) (a : AskedNode) 
 unfolding reading.read_rest
 rest_spelled object me bases a e =
     let c = only (nat_le (length bases) MAX_REPLICAS && reading.are_bases bases) (option_map (λ m. record { object = object; me = m; bases = map reading.base_in bases }) (reading.me_of me (length bases))) a e in
-    let b = both (nat_le (length bases) MAX_REPLICAS) (reading.are_bases bases) c.0 in
+    let b = and_parts (nat_le (length bases) MAX_REPLICAS) (reading.are_bases bases) c.0 in
     let m = mapped (reading.me_of me (length bases)) (λ m. record { object = object; me = m; bases = map reading.base_in bases }) a c.1 in
     let s = bases_spelled bases b.1 in
     let k = me_spelled me (length bases) m.0 m.1 in
@@ -148,7 +149,7 @@ asks_by words None t h = none_read words h
 asks_by words (Some c) t h = read_asks words (reading.seen c) t h
 
 asks_once : (words : List (List ℕ)) (a b : AskedNode) → AsksNode words a → AsksNode words b → a ≡ b
-asks_once words a b h k = same_some a b (sym (asks_read words a h) ∙ asks_read words b k)
+asks_once words a b h k = same_Some a b (sym (asks_read words a h) ∙ asks_read words b k)
 
 -- ---- what is so of a node that the words ask is so of each
 

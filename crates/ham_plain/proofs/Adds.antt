@@ -2,9 +2,11 @@
 use Rattle.std.proofs.Common.{◌≡◌, true, ◌&&◌, List, [], ◌∷◌, ◌++◌, length, Some, refl, sym, ap, ◌∙◌, append_assoc, append-nil}
 use Rattle.std.specs.Prelude.{map}
 use Rattle.std.specs.List.{flat_map}
-use Rattle.std.proofs.lemmas.Bool.{eqb-true}
+use Rattle.std.proofs.lemmas.Bool.{eqb-true, and_parts}
 use Rattle.std.proofs.lemmas.List.{nil_from_length}
 use Rattle.std.proofs.lemmas.List.Concat.{flat_map-append}
+use Rattle.std.proofs.lemmas.Option.{same_Some}
+use Rattle.ham_text.proofs.Choices.{only, mapped}
 use Rattle.ham_syntax.specs.declared.object.Param.{Param}
 use Rattle.ham_check.specs.declared.raw.RawPart.{RawPart}
 use Rattle.ham_check.specs.declared.raw.RawMethod.{RawMethod}
@@ -16,7 +18,6 @@ use Rattle.ham_plain.specs.declared.draft.Draft.TheVariants.{Nothing, Head, Body
 use Rattle.ham_plain.specs.declared.draft.Front.{Front}
 use Rattle.ham_plain.specs.Plain.{method_lines, plain_lines}
 use Rattle.ham_plain.specs.Drafts.{has_none, front_with, with_param, with_guard, with_effect, body_with, opened_with, draft_with}
-use Rattle.ham_forms.proofs.Choices.{both, only, mapped, same_some}
 
 -- the lines of what is read
 abbrev pub draft_lines : Draft → List PlainLine
@@ -42,7 +43,7 @@ abbrev pub Adds : Draft → PlainLine → Draft → Type 0
 Adds d l e = draft_lines e ≡ draft_lines d ++ l ∷ []
 
 opened_adds : (l : PlainLine) (e : Draft) → opened_with l ≡ Some e → Adds Nothing l e
-opened_adds lines.Opening e h = ap draft_lines (sym (same_some _ e h))
+opened_adds lines.Opening e h = ap draft_lines (sym (same_Some _ e h))
 opened_adds (lines.Relation r) e h = absurd cc
 opened_adds (lines.Counter c) e h = absurd cc
 opened_adds (lines.Invariant i) e h = absurd cc
@@ -68,11 +69,11 @@ front_adds : (f : Front) (l : PlainLine) (e : Draft) → front_with f l ≡ Some
 front_adds f lines.Opening e h = absurd cc
 front_adds f (lines.Relation r) e h =
     let p = only (has_none f.counters && has_none f.invariants) _ e h in
-    let q = both (has_none f.counters) (has_none f.invariants) p.0 in
+    let q = and_parts (has_none f.counters) (has_none f.invariants) p.0 in
     let relations = map lines.Relation f.relations in
     let counters = map lines.Counter f.counters in
     let invariants = map lines.Invariant f.invariants in
-    ap draft_lines (sym (same_some _ e p.1))
+    ap draft_lines (sym (same_Some _ e p.1))
     ∙ ap (λ (ls : List PlainLine). lines.Opening ∷ ls)
     (ap (λ (ls : List PlainLine). ls ++ (counters ++ invariants)) (map-last lines.Relation f.relations r)
     ∙ first_last relations counters invariants (lines.Relation r) (ap (map lines.Counter) (none_is f.counters q.0)) (ap (map lines.Invariant) (none_is f.invariants q.1)))
@@ -81,25 +82,25 @@ front_adds f (lines.Counter c) e h =
     let relations = map lines.Relation f.relations in
     let counters = map lines.Counter f.counters in
     let invariants = map lines.Invariant f.invariants in
-    ap draft_lines (sym (same_some _ e p.1))
+    ap draft_lines (sym (same_Some _ e p.1))
     ∙ ap (λ (ls : List PlainLine). lines.Opening ∷ ls)
     (ap (λ (ls : List PlainLine). relations ++ (ls ++ invariants)) (map-last lines.Counter f.counters c)
     ∙ second_last relations counters invariants (lines.Counter c) (ap (map lines.Invariant) (none_is f.invariants p.0)))
-front_adds f (lines.Invariant i) e h = ap draft_lines (sym (same_some _ e h)) ∙ simp (map-last, append_assoc)
-front_adds f (lines.Method n) e h = ap draft_lines (sym (same_some _ e h)) ∙ simp append_assoc
+front_adds f (lines.Invariant i) e h = ap draft_lines (sym (same_Some _ e h)) ∙ simp (map-last, append_assoc)
+front_adds f (lines.Method n) e h = ap draft_lines (sym (same_Some _ e h)) ∙ simp append_assoc
 front_adds f (lines.Param p) e h = absurd cc
 front_adds f (lines.Guard p) e h = absurd cc
 front_adds f (lines.Effect p) e h = absurd cc
-front_adds f lines.End e h = ap draft_lines (sym (same_some _ e h)) ∙ simp append_assoc
+front_adds f lines.End e h = ap draft_lines (sym (same_Some _ e h)) ∙ simp append_assoc
 
 param_adds : (m : RawMethod) (p : Param) (n : RawMethod) → with_param m p ≡ Some n → method_lines n ≡ method_lines m ++ lines.Param p ∷ []
 param_adds m p n h =
     let q = only (has_none m.guards && has_none m.effects) _ n h in
-    let r = both (has_none m.guards) (has_none m.effects) q.0 in
+    let r = and_parts (has_none m.guards) (has_none m.effects) q.0 in
     let params = map lines.Param m.params in
     let guards = map lines.Guard m.guards in
     let effects = map lines.Effect m.effects in
-    ap method_lines (sym (same_some _ n q.1))
+    ap method_lines (sym (same_Some _ n q.1))
     ∙ ap (λ (ls : List PlainLine). lines.Method m.name ∷ ls)
     (ap (λ (ls : List PlainLine). ls ++ (guards ++ effects)) (map-last lines.Param m.params p) ∙ first_last params guards effects (lines.Param p) (ap (map lines.Guard) (none_is m.guards r.0)) (ap (map lines.Effect) (none_is m.effects r.1)))
 
@@ -109,7 +110,7 @@ guard_adds m p n h =
     let params = map lines.Param m.params in
     let guards = map lines.Guard m.guards in
     let effects = map lines.Effect m.effects in
-    ap method_lines (sym (same_some _ n q.1))
+    ap method_lines (sym (same_Some _ n q.1))
     ∙ ap (λ (ls : List PlainLine). lines.Method m.name ∷ ls)
     (ap (λ (ls : List PlainLine). params ++ (ls ++ effects)) (map-last lines.Guard m.guards p) ∙ second_last params guards effects (lines.Guard p) (ap (map lines.Effect) (none_is m.effects q.0)))
 
@@ -125,15 +126,15 @@ body_adds raw m lines.Opening e h = absurd cc
 body_adds raw m (lines.Relation r) e h = absurd cc
 body_adds raw m (lines.Counter c) e h = absurd cc
 body_adds raw m (lines.Invariant i) e h = absurd cc
-body_adds raw m (lines.Method n) e h = ap draft_lines (sym (same_some _ e h)) ∙ simp (flat-last, append_assoc)
+body_adds raw m (lines.Method n) e h = ap draft_lines (sym (same_Some _ e h)) ∙ simp (flat-last, append_assoc)
 body_adds raw m (lines.Param p) e h =
     let q = mapped (with_param m p) (λ n. Body raw n) e h in
     ap draft_lines (sym q.2) ∙ within raw m q.0 (lines.Param p) (param_adds m p q.0 q.1)
 body_adds raw m (lines.Guard p) e h =
     let q = mapped (with_guard m p) (λ n. Body raw n) e h in
     ap draft_lines (sym q.2) ∙ within raw m q.0 (lines.Guard p) (guard_adds m p q.0 q.1)
-body_adds raw m (lines.Effect p) e h = ap draft_lines (sym (same_some _ e h)) ∙ within raw m (with_effect m p) (lines.Effect p) (effect_adds m p)
-body_adds raw m lines.End e h = ap draft_lines (sym (same_some _ e h)) ∙ simp (flat-last, append_assoc)
+body_adds raw m (lines.Effect p) e h = ap draft_lines (sym (same_Some _ e h)) ∙ within raw m (with_effect m p) (lines.Effect p) (effect_adds m p)
+body_adds raw m lines.End e h = ap draft_lines (sym (same_Some _ e h)) ∙ simp (flat-last, append_assoc)
 
 pub draft_adds : (d : Draft) (l : PlainLine) (e : Draft) → draft_with d l ≡ Some e → Adds d l e
 unfolding draft_with

@@ -11,6 +11,7 @@ use Rattle.ham_text.specs.BadLines.{IsFirstBadLine, IsClosed}
 use Rattle.ham_text.specs.Forms.{Form, form, state_after, MayBegin, IsText, read_from}
 use Rattle.ham_text.proofs.Wording.{lines_apart, lines_together}
 use Rattle.ham_text.proofs.Reading.{kept, closed, text_read, read_text, first_bad, same_bad_line, one_bad_line}
+use Rattle.ham_text.proofs.Choices.{steps, mapped}
 use Rattle.ham_check.specs.declared.raw.Raw.{Raw}
 use Rattle.ham_plain.specs.declared.line.PlainLine.{PlainLine}
 use Rattle.ham_plain.specs.declared.line.PlainLine.TheVariants as lines
@@ -23,7 +24,6 @@ use Rattle.ham_plain.specs.Plain.{line_words, line_text, plain_lines, plain_form
 use Rattle.ham_plain.specs.PlainFiles.{object_words, BeginsObject, IsObject, IsPlainReading}
 use Rattle.ham_plain.specs.Reading.{line_of}
 use Rattle.ham_plain.specs.Drafts.{without_methods, and_method, draft_with, draft_after, after, is_end, is_whole}
-use Rattle.ham_forms.proofs.Choices.{steps, mapped}
 use Rattle.ham_plain.proofs.Wording.{line_spelled, line_back}
 use Rattle.ham_plain.proofs.Spaces.{lines_solid}
 use Rattle.ham_plain.proofs.Adds.{draft_lines, Adds, draft_adds}

@@ -2,6 +2,7 @@
 use Rattle.std.proofs.Common.{◌≡◌, ℕ, List, [], ◌∷◌, ◌++◌, Option, Some, refl, sym, ap, ◌∙◌, append_assoc, append-nil}
 use Rattle.std.specs.Prelude.{map}
 use Rattle.std.specs.List.{flat_map}
+use Rattle.ham_text.specs.Numbers.{◌>>=◌}
 use Rattle.ham_syntax.specs.declared.object.Counter.{Counter}
 use Rattle.ham_syntax.specs.declared.object.Param.{Param}
 use Rattle.ham_check.specs.declared.raw.RawRelation.{RawRelation}
@@ -14,7 +15,6 @@ use Rattle.ham_plain.specs.declared.line.PlainLine.TheVariants as lines
 use Rattle.ham_plain.specs.declared.draft.Draft.{Draft}
 use Rattle.ham_plain.specs.declared.draft.Draft.TheVariants.{Nothing, Head, Body, Whole}
 use Rattle.ham_plain.specs.Plain.{method_lines, plain_lines}
-use Rattle.ham_forms.specs.Words.{◌>>=◌}
 use Rattle.ham_plain.specs.Drafts.{and_method, draft_with}
 
 -- what is read with these lines more

@@ -2,11 +2,14 @@
 use Rattle.std.proofs.Common.{◌≡◌, ◌==◌, ℕ, suc, ◌+◌, ◌-◌, ◌^◌, ◌<◌, ◌≤◌, Bool, true, false, ◌&&◌, nat_lt, nat_le, List, [], ◌∷◌, get_or, Option, Some, None, refl, ap, ◌∙◌, subst, inl, inr, arith, lt-ltb}
 use Rattle.std.specs.Prelude.{IsTrue, IfSome, ℤ, pos, negsuc, codes}
 use Rattle.std.specs.Fmt.{decimal, signed_decimal}
-use Rattle.std.proofs.lemmas.Bool.{ltb-true, leb-true, eqb-true, cases_lt}
+use Rattle.std.proofs.lemmas.Bool.{ltb-true, leb-true, eqb-true, cases_lt, and_parts}
 use Rattle.std.proofs.lemmas.Bool.Decides.{nat_tests}
 use Rattle.std.proofs.lemmas.Fmt.{decimal_digit, first_decimal}
-use Rattle.ham_text.specs.Numbers.{is_numeral, value_after, number_of}
+use Rattle.std.proofs.lemmas.Option.{same_Some}
+use Rattle.ham_text.specs.Words.{is_text}
+use Rattle.ham_text.specs.Numbers.{is_numeral, value_after, number_of, ◌>>=◌}
 use Rattle.ham_text.proofs.Numerals.{spelled, complete}
+use Rattle.ham_text.proofs.Choices.{either, branch, only, steps, mapped, text_is, pick_spelled}
 use Rattle.ham_syntax.specs.declared.object.Kind.{Kind}
 use Rattle.ham_syntax.specs.declared.object.Kind.TheVariants.{Id, Amount}
 use Rattle.ham_check.specs.declared.raw.Verb.{Verb}
@@ -20,9 +23,8 @@ use Rattle.ham_syntax.specs.Typed.{IsLimit}
 use Rattle.ham_plain.specs.Plain.{keyed_word, kind_word, verb_word, term_word, IsProperTerm}
 use Rattle.ham_forms.specs.declared.words.InvariantKind.{InvariantKind}
 use Rattle.ham_forms.specs.declared.words.InvariantKind.TheVariants as kinds
-use Rattle.ham_forms.specs.Words.{◌>>=◌, is_text, keyed_of, kind_of, verb_of, invariant_kind_of, name_of, constant_of, term_of, positive_of, negative_of, limit_of}
+use Rattle.ham_forms.specs.Words.{keyed_of, kind_of, verb_of, invariant_kind_of, name_of, constant_of, term_of, positive_of, negative_of, limit_of}
 use Rattle.ham_plain.specs.Reading.{keyword_of}
-use Rattle.ham_forms.proofs.Choices.{both, either, chosen, only, steps, mapped, same_some, text_is, pick}
 
 abbrev pub keyword_word : Keyword → List ℕ
 keyword_word keywords.Hamsaz = codes "hamsaz"
@@ -41,15 +43,15 @@ nothing x e = absurd cc
 pub keyword_spelled : (w : List ℕ) (k : Keyword) → keyword_of w ≡ Some k → w ≡ keyword_word k
 unfolding keyword_of
 keyword_spelled w k e =
-    pick keyword_word w (codes "hamsaz") keywords.Hamsaz k _ refl
-    (pick keyword_word w (codes "relation") keywords.Relation k _ refl
-    (pick keyword_word w (codes "counter") keywords.Counter k _ refl
-    (pick keyword_word w (codes "invariant") keywords.Invariant k _ refl
-    (pick keyword_word w (codes "method") keywords.Method k _ refl
-    (pick keyword_word w (codes "param") keywords.Param k _ refl
-    (pick keyword_word w (codes "guard") keywords.Guard k _ refl
-    (pick keyword_word w (codes "effect") keywords.Effect k _ refl
-    (pick keyword_word w (codes "end") keywords.End k None refl (nothing k))))))))) e
+    pick_spelled keyword_word w (codes "hamsaz") keywords.Hamsaz k _ refl
+    (pick_spelled keyword_word w (codes "relation") keywords.Relation k _ refl
+    (pick_spelled keyword_word w (codes "counter") keywords.Counter k _ refl
+    (pick_spelled keyword_word w (codes "invariant") keywords.Invariant k _ refl
+    (pick_spelled keyword_word w (codes "method") keywords.Method k _ refl
+    (pick_spelled keyword_word w (codes "param") keywords.Param k _ refl
+    (pick_spelled keyword_word w (codes "guard") keywords.Guard k _ refl
+    (pick_spelled keyword_word w (codes "effect") keywords.Effect k _ refl
+    (pick_spelled keyword_word w (codes "end") keywords.End k None refl (nothing k))))))))) e
 
 pub keyword_back : (k : Keyword) → keyword_of (keyword_word k) ≡ Some k
 unfolding keyword_of
@@ -65,7 +67,7 @@ keyword_back keywords.End = refl
 
 pub keyed_spelled : (w : List ℕ) (k : Bool) → keyed_of w ≡ Some k → w ≡ keyed_word k
 unfolding keyed_of
-keyed_spelled w k e = pick keyed_word w (codes "plain") false k _ refl (pick keyed_word w (codes "keyed") true k None refl (nothing k)) e
+keyed_spelled w k e = pick_spelled keyed_word w (codes "plain") false k _ refl (pick_spelled keyed_word w (codes "keyed") true k None refl (nothing k)) e
 
 pub keyed_back : (k : Bool) → keyed_of (keyed_word k) ≡ Some k
 unfolding keyed_of
@@ -74,7 +76,7 @@ keyed_back false = refl
 
 pub kind_spelled : (w : List ℕ) (k : Kind) → kind_of w ≡ Some k → w ≡ kind_word k
 unfolding kind_of
-kind_spelled w k e = pick kind_word w (codes "id") Id k _ refl (pick kind_word w (codes "amount") Amount k None refl (nothing k)) e
+kind_spelled w k e = pick_spelled kind_word w (codes "id") Id k _ refl (pick_spelled kind_word w (codes "amount") Amount k None refl (nothing k)) e
 
 pub kind_back : (k : Kind) → kind_of (kind_word k) ≡ Some k
 unfolding kind_of
@@ -84,14 +86,14 @@ kind_back Amount = refl
 pub verb_spelled : (w : List ℕ) (v : Verb) → verb_of w ≡ Some v → w ≡ verb_word v
 unfolding verb_of
 verb_spelled w v e =
-    pick verb_word w (codes "present") Present v _ refl
-    (pick verb_word w (codes "absent") Absent v _ refl
-    (pick verb_word w (codes "atleast") AtLeast v _ refl
-    (pick verb_word w (codes "atmost") AtMost v _ refl
-    (pick verb_word w (codes "insert") Insert v _ refl
-    (pick verb_word w (codes "delete") Delete v _ refl
-    (pick verb_word w (codes "add") Add v _ refl
-    (pick verb_word w (codes "subtract") Subtract v None refl (nothing v)))))))) e
+    pick_spelled verb_word w (codes "present") Present v _ refl
+    (pick_spelled verb_word w (codes "absent") Absent v _ refl
+    (pick_spelled verb_word w (codes "atleast") AtLeast v _ refl
+    (pick_spelled verb_word w (codes "atmost") AtMost v _ refl
+    (pick_spelled verb_word w (codes "insert") Insert v _ refl
+    (pick_spelled verb_word w (codes "delete") Delete v _ refl
+    (pick_spelled verb_word w (codes "add") Add v _ refl
+    (pick_spelled verb_word w (codes "subtract") Subtract v None refl (nothing v)))))))) e
 
 pub verb_back : (v : Verb) → verb_of (verb_word v) ≡ Some v
 unfolding verb_of
@@ -113,10 +115,10 @@ invariant_kind_word kinds.High = codes "high"
 pub invariant_kind_spelled : (w : List ℕ) (r : InvariantKind) → invariant_kind_of w ≡ Some r → w ≡ invariant_kind_word r
 unfolding invariant_kind_of
 invariant_kind_spelled w r e =
-    pick invariant_kind_word w (codes "reference") kinds.Reference r _ refl
-    (pick invariant_kind_word w (codes "unique") kinds.Unique r _ refl
-    (pick invariant_kind_word w (codes "low") kinds.Low r _ refl
-    (pick invariant_kind_word w (codes "high") kinds.High r None refl (nothing r)))) e
+    pick_spelled invariant_kind_word w (codes "reference") kinds.Reference r _ refl
+    (pick_spelled invariant_kind_word w (codes "unique") kinds.Unique r _ refl
+    (pick_spelled invariant_kind_word w (codes "low") kinds.Low r _ refl
+    (pick_spelled invariant_kind_word w (codes "high") kinds.High r None refl (nothing r)))) e
 
 pub invariant_kind_back : (r : InvariantKind) → invariant_kind_of (invariant_kind_word r) ≡ Some r
 unfolding invariant_kind_of
@@ -128,7 +130,7 @@ invariant_kind_back kinds.High = refl
 pub name_spelled : (w n : List ℕ) → name_of w ≡ Some n → (w ≡ n) × IsTrue (is_name n)
 name_spelled w n e =
     let p = only (is_name w) (Some w) n e in
-    let same : w ≡ n = same_some w n p.1 in
+    let same : w ≡ n = same_Some w n p.1 in
     (same, subst (λ (t : List ℕ). IsTrue (is_name t)) same p.0)
 
 pub name_back : (n : List ℕ) → IsTrue (is_name n) → name_of n ≡ Some n
@@ -140,9 +142,9 @@ pub number_spelled : (w : List ℕ) (n : ℕ) → number_of w ≡ Some n → (w 
 unfolding number_of
 number_spelled w n e =
     let p = only (is_numeral w && nat_lt (value_after 0 w) (2 ^ 64)) (Some (value_after 0 w)) n e in
-    let same : value_after 0 w ≡ n = same_some (value_after 0 w) n p.1 in
+    let same : value_after 0 w ≡ n = same_Some (value_after 0 w) n p.1 in
     let word = subst (λ (o : Option ℕ). IfSome o (λ m. w ≡ decimal m)) e (spelled w) in
-    let small : value_after 0 w < 2 ^ 64 = ltb-true (value_after 0 w) (2 ^ 64) (both (is_numeral w) (nat_lt (value_after 0 w) (2 ^ 64)) p.0).1 in
+    let small : value_after 0 w < 2 ^ 64 = ltb-true (value_after 0 w) (2 ^ 64) (and_parts (is_numeral w) (nat_lt (value_after 0 w) (2 ^ 64)) p.0).1 in
     (word, subst (λ (m : ℕ). m < 2 ^ 64) same small)
 
 pub number_back : (n : ℕ) → n < 2 ^ 64 → number_of (decimal n) ≡ Some n
@@ -180,23 +182,23 @@ positive_spelled : (w : List ℕ) (z : ℤ) → (number_of w >>= positive_of) �
 positive_spelled w z e =
     let p = steps (number_of w) positive_of z e in
     let q = only (nat_lt p.0 (2 ^ 63)) (Some (pos p.0)) z p.2 in
-    subst (λ (y : ℤ). (w ≡ signed_decimal y) × IsLimit y) (same_some (pos p.0) z q.1) ((number_spelled w p.0 p.1).0, ltb-true p.0 (2 ^ 63) q.0)
+    subst (λ (y : ℤ). (w ≡ signed_decimal y) × IsLimit y) (same_Some (pos p.0) z q.1) ((number_spelled w p.0 p.1).0, ltb-true p.0 (2 ^ 63) q.0)
 
 negative_spelled : (w : List ℕ) (z : ℤ) → (number_of w >>= negative_of) ≡ Some z → (45 ∷ w ≡ signed_decimal z) × IsLimit z
 negative_spelled w z e =
     let p = steps (number_of w) negative_of z e in
     let q = only (nat_lt 0 p.0 && nat_le p.0 (2 ^ 63)) (Some (negsuc (p.0 - 1))) z p.2 in
-    let bounds = both (nat_lt 0 p.0) (nat_le p.0 (2 ^ 63)) q.0 in
+    let bounds = and_parts (nat_lt 0 p.0) (nat_le p.0 (2 ^ 63)) q.0 in
     let low : 0 < p.0 = ltb-true 0 p.0 bounds.0 in
     let high : p.0 ≤ 2 ^ 63 = leb-true p.0 (2 ^ 63) bounds.1 in
     let same : p.0 ≡ suc (p.0 - 1) = omega arith in
     let small : p.0 - 1 < 2 ^ 63 = omega arith in
-    subst (λ (y : ℤ). (45 ∷ w ≡ signed_decimal y) × IsLimit y) (same_some (negsuc (p.0 - 1)) z q.1) (ap (λ (ds : List ℕ). 45 ∷ ds) ((number_spelled w p.0 p.1).0 ∙ ap decimal same), small)
+    subst (λ (y : ℤ). (45 ∷ w ≡ signed_decimal y) × IsLimit y) (same_Some (negsuc (p.0 - 1)) z q.1) (ap (λ (ds : List ℕ). 45 ∷ ds) ((number_spelled w p.0 p.1).0 ∙ ap decimal same), small)
 
 pub limit_spelled : (w : List ℕ) (z : ℤ) → limit_of w ≡ Some z → (w ≡ signed_decimal z) × IsLimit z
 unfolding limit_of
 limit_spelled [] z e = positive_spelled [] z e
-limit_spelled (b ∷ digits) z e = elim (chosen (b == 45) _ _ z e) [
+limit_spelled (b ∷ digits) z e = elim (branch (b == 45) _ _ z e) [
   | inl p ↦ (let q = negative_spelled digits z p.1 in (ap (λ (c : ℕ). c ∷ digits) (eqb-true b 45 p.0) ∙ q.0, q.1))
   | inr h ↦ positive_spelled (b ∷ digits) z h
 ]

@@ -3,7 +3,10 @@ use Rattle.std.proofs.Common.{◌≡◌, ℕ, ◌^◌, ◌<◌, true, List, [], 
 use Rattle.std.specs.Prelude.{IsTrue, ℤ, codes, map, option_map}
 use Rattle.std.specs.List.{AllByRecursion}
 use Rattle.std.specs.Fmt.{decimal, signed_decimal}
-use Rattle.ham_text.specs.Numbers.{number_of}
+use Rattle.std.proofs.lemmas.Bool.{and_parts}
+use Rattle.std.proofs.lemmas.Option.{same_Some}
+use Rattle.ham_text.specs.Words.{is_text}
+use Rattle.ham_text.specs.Numbers.{number_of, ◌>>=◌}
 use Rattle.ham_syntax.specs.declared.object.Counter.{Counter}
 use Rattle.ham_syntax.specs.declared.object.Param.{Param}
 use Rattle.ham_check.specs.declared.raw.RawTerm.{RawTerm}
@@ -18,12 +21,12 @@ use Rattle.ham_plain.specs.declared.line.PlainLine.{PlainLine}
 use Rattle.ham_plain.specs.declared.line.PlainLine.TheVariants as lines
 use Rattle.ham_syntax.specs.Typed.{IsLimit}
 use Rattle.ham_text.specs.Numbers.{AreNumbers}
+use Rattle.ham_text.proofs.Choices.{only, steps, mapped, text_is}
 use Rattle.ham_plain.specs.Plain.{keyed_word, kind_word, verb_word, term_word, part_words, invariant_words, line_words, IsProperTerm, IsProperPart, IsProperInvariant, IsProperLine}
 use Rattle.ham_forms.specs.declared.words.InvariantKind.{InvariantKind}
 use Rattle.ham_forms.specs.declared.words.InvariantKind.TheVariants as kinds
-use Rattle.ham_forms.specs.Words.{◌>>=◌, is_text, keyed_of, kind_of, verb_of, invariant_kind_of, name_of, term_of, limit_of}
+use Rattle.ham_forms.specs.Words.{keyed_of, kind_of, verb_of, invariant_kind_of, name_of, term_of, limit_of}
 use Rattle.ham_plain.specs.Reading.{keyword_of, single_of, pair_of, is_version, opening_of, relation_of, counter_of, param_of, method_of, values_from, reference_of, unique_of, low_of, high_of, by_kind_of, invariant_of, part_of, end_of, line_after, line_of}
-use Rattle.ham_forms.proofs.Choices.{both, only, steps, mapped, same_some, text_is}
 use Rattle.ham_plain.proofs.Spelled.{keyword_word, keyword_spelled, keyword_back, keyed_spelled, keyed_back, kind_spelled, kind_back, verb_spelled, verb_back, invariant_kind_word, invariant_kind_spelled, invariant_kind_back, name_spelled, name_back, number_spelled, number_back, term_spelled, term_back, limit_spelled, limit_back}
 
 -- words that spell a value, which is proper
@@ -32,17 +35,17 @@ pub record Spells {A : Type 0} (words_of : A → List (List ℕ)) (IsFit : A →
   pub fit : IsFit x
 
 along : {A : Type 0} (words_of : A → List (List ℕ)) (IsFit : A → Type 0) (words : List (List ℕ)) (x y : A) → Some x ≡ Some y → words ≡ words_of x → IsFit x → Spells words_of IsFit words y
-along words_of IsFit words x y e s h = subst (λ a. Spells words_of IsFit words a) (same_some x y e) (record { words_are = s; fit = h })
+along words_of IsFit words x y e s h = subst (λ a. Spells words_of IsFit words a) (same_Some x y e) (record { words_are = s; fit = h })
 
 single_spelled : (ws : List (List ℕ)) (a : List ℕ) → single_of ws ≡ Some a → ws ≡ a ∷ []
 single_spelled [] a e = absurd cc
-single_spelled (b ∷ []) a e = ap (λ (w : List ℕ). w ∷ []) (same_some b a e)
+single_spelled (b ∷ []) a e = ap (λ (w : List ℕ). w ∷ []) (same_Some b a e)
 single_spelled (b ∷ c ∷ ws) a e = absurd cc
 
 pair_spelled : (ws : List (List ℕ)) (p : List ℕ × List ℕ) → pair_of ws ≡ Some p → ws ≡ p.0 ∷ p.1 ∷ []
 pair_spelled [] p e = absurd cc
 pair_spelled (a ∷ []) p e = absurd cc
-pair_spelled (a ∷ b ∷ []) p e = ap (λ (q : List ℕ × List ℕ). q.0 ∷ q.1 ∷ []) (same_some (a, b) p e)
+pair_spelled (a ∷ b ∷ []) p e = ap (λ (q : List ℕ × List ℕ). q.0 ∷ q.1 ∷ []) (same_Some (a, b) p e)
 pair_spelled (a ∷ b ∷ c ∷ ws) p e = absurd cc
 
 two : (a b c d : List ℕ) → a ≡ c → b ≡ d → a ∷ b ∷ [] ≡ c ∷ d ∷ []
@@ -52,7 +55,7 @@ version_spelled : (ws : List (List ℕ)) → is_version ws ≡ true → ws ≡ c
 version_spelled [] e = absurd cc
 version_spelled (a ∷ []) e = absurd cc
 version_spelled (a ∷ b ∷ []) e =
-    let p = both (is_text a (codes "object")) (is_text b (codes "1")) e in
+    let p = and_parts (is_text a (codes "object")) (is_text b (codes "1")) e in
     two a b (codes "object") (codes "1") (text_is a (codes "object") p.0) (text_is b (codes "1") p.1)
 version_spelled (a ∷ b ∷ c ∷ ws) e = absurd cc
 

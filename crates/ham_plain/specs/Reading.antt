@@ -1,7 +1,8 @@
 -- The lines of the plain form as a reader finds them, word by word: none where the words are no line.
 use Rattle.std.specs.Prelude.{ℕ, ◌&&◌, Bool, false, List, [], ◌∷◌, ◌++◌, Option, Some, None, option_map, if◌then◌else◌, codes}
+use Rattle.ham_text.specs.Words.{is_text, if_word}
 use Rattle.ham_text.specs.Cuts.{parts_of}
-use Rattle.ham_text.specs.Numbers.{number_of}
+use Rattle.ham_text.specs.Numbers.{number_of, ◌>>=◌}
 use Rattle.ham_syntax.specs.declared.object.Counter.{Counter}
 use Rattle.ham_syntax.specs.declared.object.Param.{Param}
 use Rattle.ham_check.specs.declared.raw.RawRelation.{RawRelation}
@@ -14,7 +15,7 @@ use Rattle.ham_plain.specs.declared.keyword.Keyword.{Keyword}
 use Rattle.ham_plain.specs.declared.keyword.Keyword.TheVariants as keywords
 use Rattle.ham_plain.specs.declared.line.PlainLine.{PlainLine}
 use Rattle.ham_plain.specs.declared.line.PlainLine.TheVariants as lines
-use Rattle.ham_forms.specs.Words.{◌>>=◌, is_text, if_word, keyed_of, kind_of, verb_of, invariant_kind_of, name_of, term_of, limit_of}
+use Rattle.ham_forms.specs.Words.{keyed_of, kind_of, verb_of, invariant_kind_of, name_of, term_of, limit_of}
 
 -- the first word of a line
 unfoldable pub keyword_of : List ℕ → Option Keyword

@@ -20,6 +20,7 @@ pub enum Keyword {
     End,
 }
 
+/// The keyword that the word is.
 #[tactic(auto, unfolding(crate::specs::Reading::keyword_of))]
 pub fn read_keyword(word: &[u8]) -> Option<Keyword>
     ensures { result ≡ reading.keyword_of word.now }

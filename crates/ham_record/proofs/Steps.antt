@@ -6,8 +6,8 @@ use Rattle.ham_turns.specs.Settings.{Setting, setting_of}
 use Rattle.ham_runs.specs.Runs.{Note}
 use Rattle.ham_world.specs.Worlds.{Run, begun}
 use Rattle.ham_replay.specs.declared.end.Refusal.{Refusal}
-use Rattle.ham_replay.specs.Ends.{IsTurn}
-use Rattle.ham_replay.specs.Replays.{Turn, Refuses, Answers, Played, turn_of, then_played, ended, refused_at}
+use Rattle.ham_replay.specs.Ends.{IsLineOutcome}
+use Rattle.ham_replay.specs.Replays.{LineOutcome, Refuses, Answers, Played, line_outcome, then_played, ended, refused_at}
 use Rattle.ham_record.specs.declared.running.Halt.{Halt}
 use Rattle.ham_record.specs.declared.running.Halt.TheVariants.{Refused, NoMemory}
 use Rattle.ham_record.specs.Recorded.{IsWhole, IsRest, MakesWorld, PlaysRest}
@@ -22,14 +22,14 @@ pub record Running (old now : Run) (whole rest : Played) : Type 0 where
 pub begins : (old : Run) (whole : Played) → Running old old whole whole
 begins old whole = record { refused = refl; notes = refl; replicas = refl; same = refl }
 
-answered_same : (old new : Run) (text : List ℕ) (t : Turn) → IsTurn old new [] text t None → new ≡ record old { notes = new.notes }
+answered_same : (old new : Run) (text : List ℕ) (t : LineOutcome) → IsLineOutcome old new [] text t None → new ≡ record old { notes = new.notes }
 answered_same old new text (Answers notes told) h = h.0 ∙ ap (λ (ns : List Note). record old { notes = ns }) (sym (ap (λ (r : Run). r.notes) h.0))
 answered_same old new text (Refuses why) h = absurd h
 
 pub goes_on : (old mid now : Run) (whole rest rest_now : Played) (line text : List ℕ) → Running old mid whole rest → rest ≡ then_played text rest_now →
-    IsTurn mid now [] text (turn_of mid.object (setting_of mid.plan) mid.notes line) None → Running old now whole rest_now
+    IsLineOutcome mid now [] text (line_outcome mid.object (setting_of mid.plan) mid.notes line) None → Running old now whole rest_now
 goes_on old mid now whole rest rest_now line text p e turn =
-    let step = answered_same mid now text (turn_of mid.object (setting_of mid.plan) mid.notes line) turn in
+    let step = answered_same mid now text (line_outcome mid.object (setting_of mid.plan) mid.notes line) turn in
     record {
       refused = p.refused ∙ ap (λ (q : Played). q.refused) e;
       notes = p.notes ∙ ap (λ (q : Played). q.notes) e;

@@ -10,7 +10,7 @@ ghost use Rattle.ham_record.specs.Recorded.{MakesWorld, PlaysRest};
 
 use ham_grammar::{Line, LineFault, is_skipped, read_line};
 use ham_lists::{Items, NoMemory as OutOfMemory};
-use ham_replay::turn::turn;
+use ham_replay::line::play_line;
 use ham_replay::{LineRefusal, Plans, Refusal, plan_for};
 use ham_syntax::Object;
 use ham_syntax::limits::MAX_REPLICAS;
@@ -126,7 +126,7 @@ fn run_rest(alloc: Global, world: &mut World, first: u64, lines: &[u8]) -> Resul
     while !rest.is_empty() {
         let (line, after) = first_line(rest);
         text.truncate(0);
-        if let Some(why) = turn(alloc, world, line, &mut text)? {
+        if let Some(why) = play_line(alloc, world, line, &mut text)? {
             return Err(Halt::Refused(Refusal { line: number, why }));
         }
         rest = after;

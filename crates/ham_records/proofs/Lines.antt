@@ -5,9 +5,10 @@ use Rattle.std.specs.Fmt.{decimal}
 use Rattle.std.specs.Cmp.Lexicographic.{pointwise, same_text}
 use Rattle.std.proofs.lemmas.Bool.{ltb-true, leb-true, le-leb, and_parts}
 use Rattle.std.proofs.lemmas.Option.{same_Some, none-some}
-use Rattle.ham_text.specs.Numbers.{number_of, numbers_within, AreNumbers}
+use Rattle.ham_text.specs.Numbers.{number_of, numbers_within, below, AreNumbers}
 use Rattle.ham_text.proofs.Wording.{decimal_read}
-use Rattle.ham_text.proofs.Several.{number_spelled, within_spelled, within_read}
+use Rattle.ham_text.proofs.Several.{spelled_below, read_below, within_spelled, within_read}
+use Rattle.ham_text.proofs.Choices.{branch, chosen, steps, mapped, text_is}
 use Rattle.ham_syntax.specs.declared.act.Act.{Act}
 use Rattle.ham_syntax.specs.declared.act.Place.{Place}
 use Rattle.ham_syntax.specs.declared.limits.TheConstants.{MAX_REPLICAS, MAX_PARAMS}
@@ -18,7 +19,7 @@ use Rattle.ham_records.specs.declared.records.Logged.{Logged}
 use Rattle.ham_records.specs.declared.line.RecordLine.{RecordLine}
 use Rattle.ham_records.specs.declared.line.RecordLine.TheVariants.{Opening, Replicas, Replica, Call, End}
 use Rattle.ham_records.specs.Texts.{opening_words, replicas_words, replica_words, call_words, end_words, IsLogged}
-use Rattle.ham_records.specs.Reading.{single_of, below, small_of, wide_of, opening_by, opening_of, counted, replicas_of, replica_of, place_of, fitting, act_of, call_of, bare_line, line_after, line_of}
+use Rattle.ham_records.specs.Reading.{single_of, small_of, wide_of, opening_by, opening_of, counted, replicas_of, replica_of, place_of, fitting, act_of, call_of, bare_line, line_after, line_of}
 
 abbrev pub line_words : Schema → RecordLine → List (List ℕ)
 line_words o Opening = opening_words
@@ -39,43 +40,7 @@ pub record Spells (o : Schema) (words : List (List ℕ)) (line : RecordLine) : T
   pub is : IsLine o line
   pub words_are : words ≡ line_words o line
 
--- ---- steps
-
-word_is : (w t : List ℕ) → pointwise nat_eq w t ≡ true → w ≡ t
-word_is w t e = same_text w t (sym e)
-
-chosen : {A : Type 0} (b : Bool) (x y : A) → cond b (Some x) None ≡ Some y → (b ≡ true) × (x ≡ y)
-chosen true x y e = (refl, same_Some x y e)
-chosen false x y e = absurd (none-some y e)
-
-branch : {A : Type 0} (b : Bool) (x y : Option A) (v : A) → cond b x y ≡ Some v → ((b ≡ true) × (x ≡ Some v)) ⊎ (y ≡ Some v)
-branch true x y v e = inl (refl, e)
-branch false x y v e = inr e
-
-steps : {A B : Type 0} (o : Option A) (f : A → Option B) (y : B) → option_and_then f o ≡ Some y → (x : A) × (o ≡ Some x) × (f x ≡ Some y)
-steps (Some x) f y e = (x, refl, e)
-steps None f y e = absurd (none-some y e)
-
-mapped : {A B : Type 0} (f : A → B) (o : Option A) (y : B) → option_map f o ≡ Some y → (x : A) × (o ≡ Some x) × (f x ≡ y)
-mapped f None y e = absurd (none-some y e)
-mapped f (Some x) y e = (x, refl, same_Some (f x) y e)
-
 -- ---- numbers
-
-within : (bound n m : ℕ) → below bound n ≡ Some m → (n ≡ m) × (m < bound)
-within bound n m e =
-    let w = chosen (nat_lt n bound) n m e in
-    (w.1, subst (λ k. k < bound) w.1 (ltb-true n bound w.0))
-
--- a word of a number below a bound
-spelled_below : (bound : ℕ) (word : List ℕ) (m : ℕ) → option_and_then (below bound) (number_of word) ≡ Some m → (word ≡ decimal m) × (m < bound)
-spelled_below bound word m e =
-    let w = steps (number_of word) (below bound) m e in
-    let v = within bound w.0 m w.2 in
-    (number_spelled word w.0 w.1 ∙ ap decimal v.0, v.1)
-
-read_below : (bound n : ℕ) → n < bound → n < 2 ^ 64 → option_and_then (below bound) (number_of (decimal n)) ≡ Some n
-read_below bound n h small = ap (option_and_then (below bound)) (decimal_read n small) ∙ ap (λ b. cond b (Some n) None) (lt-ltb n bound h)
 
 small_spelled : (word : List ℕ) (m : ℕ) → small_of word ≡ Some m → (word ≡ decimal m) × (m < 256)
 small_spelled word m e = spelled_below 256 word m e
@@ -105,7 +70,7 @@ opening_pair : (a b : List ℕ) (line : RecordLine) → opening_by a b ≡ Some 
 opening_pair a b line e =
     let w = chosen (pointwise nat_eq a (codes "audit") && pointwise nat_eq b (codes "1")) Opening line e in
     let p = and_parts (pointwise nat_eq a (codes "audit")) (pointwise nat_eq b (codes "1")) w.0 in
-    (w.1, ap (λ z. z ∷ b ∷ []) (word_is a (codes "audit") p.0) ∙ ap (λ z. codes "audit" ∷ z ∷ []) (word_is b (codes "1") p.1))
+    (w.1, ap (λ z. z ∷ b ∷ []) (text_is a (codes "audit") p.0) ∙ ap (λ z. codes "audit" ∷ z ∷ []) (text_is b (codes "1") p.1))
 
 opening_spelled : (o : Schema) (words : List (List ℕ)) (line : RecordLine) → opening_of words ≡ Some line → Spells o (codes "hamsaz" ∷ words) line
 unfolding opening_of
@@ -119,7 +84,7 @@ opening_spelled o (a ∷ b ∷ c ∷ ws) line e = absurd (none-some line e)
 replica_spelled : (o : Schema) (words : List (List ℕ)) (line : RecordLine) → replica_of words ≡ Some line → Spells o (codes "replica" ∷ words) line
 replica_spelled o words line e =
     let w = steps (single_of words) (λ word. option_map (λ r. Replica r) (small_of word)) line e in
-    let v = mapped (λ r. Replica r) (small_of w.0) line w.2 in
+    let v = mapped (small_of w.0) (λ r. Replica r) line w.2 in
     let s = small_spelled w.0 v.0 v.1 in
     subst (Spells o (codes "replica" ∷ words)) v.2
     (record { is = s.1; words_are = ap (λ ws. codes "replica" ∷ ws) (single_spelled words w.0 w.1 ∙ ap (λ z. z ∷ []) s.0) })
@@ -194,14 +159,14 @@ call_spelled o (l ∷ k ∷ name ∷ words) e h =
 after_spelled : (o : Schema) (word : List ℕ) (words : List (List ℕ)) (line : RecordLine) → line_after o word words ≡ Some line → Spells o (word ∷ words) line
 after_spelled o word words line e = elim (branch (pointwise nat_eq word (codes "call")) _ _ line e) [
   | inl p ↦
-      let w = mapped (λ z. Call z) (call_of o words) line p.1 in
-      subst (λ z. Spells o (z ∷ words) line) (sym (word_is word (codes "call") p.0)) (subst (Spells o (codes "call" ∷ words)) w.2 (call_spelled o words w.0 w.1))
+      let w = mapped (call_of o words) (λ z. Call z) line p.1 in
+      subst (λ z. Spells o (z ∷ words) line) (sym (text_is word (codes "call") p.0)) (subst (Spells o (codes "call" ∷ words)) w.2 (call_spelled o words w.0 w.1))
   | inr e2 ↦ elim (branch (pointwise nat_eq word (codes "replica")) _ _ line e2) [
-    | inl p ↦ subst (λ z. Spells o (z ∷ words) line) (sym (word_is word (codes "replica") p.0)) (replica_spelled o words line p.1)
+    | inl p ↦ subst (λ z. Spells o (z ∷ words) line) (sym (text_is word (codes "replica") p.0)) (replica_spelled o words line p.1)
     | inr e3 ↦ elim (branch (pointwise nat_eq word (codes "replicas")) _ _ line e3) [
-      | inl p ↦ subst (λ z. Spells o (z ∷ words) line) (sym (word_is word (codes "replicas") p.0)) (replicas_spelled o words line p.1)
+      | inl p ↦ subst (λ z. Spells o (z ∷ words) line) (sym (text_is word (codes "replicas") p.0)) (replicas_spelled o words line p.1)
       | inr e4 ↦ elim (branch (pointwise nat_eq word (codes "hamsaz")) _ _ line e4) [
-        | inl p ↦ subst (λ z. Spells o (z ∷ words) line) (sym (word_is word (codes "hamsaz") p.0)) (opening_spelled o words line p.1)
+        | inl p ↦ subst (λ z. Spells o (z ∷ words) line) (sym (text_is word (codes "hamsaz") p.0)) (opening_spelled o words line p.1)
         | inr e5 ↦ absurd (none-some line e5)
       ]
     ]
@@ -213,7 +178,7 @@ unfolding line_of
 line_spelled o [] line e = absurd (none-some line e)
 line_spelled o (word ∷ []) line e =
     let w = chosen (pointwise nat_eq word (codes "end")) End line e in
-    subst (Spells o (word ∷ [])) w.1 (record { is = tt; words_are = ap (λ z. z ∷ []) (word_is word (codes "end") w.0) })
+    subst (Spells o (word ∷ [])) w.1 (record { is = tt; words_are = ap (λ z. z ∷ []) (text_is word (codes "end") w.0) })
 line_spelled o (word ∷ next ∷ words) line e = after_spelled o word (next ∷ words) line e
 
 -- ---- what is spelled is read

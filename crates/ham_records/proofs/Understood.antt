@@ -11,6 +11,7 @@ use Rattle.ham_text.specs.Cuts.{pieces_of}
 use Rattle.ham_text.specs.Written.{nothing}
 use Rattle.ham_text.specs.Forms.{Form, form, state_after, MayBegin, IsText, read_from}
 use Rattle.ham_text.proofs.Reading.{more, closed, kept, text_read, read_text, first_bad, same_bad_line}
+use Rattle.ham_text.proofs.Choices.{chosen, steps, mapped}
 use Rattle.ham_syntax.specs.Objects.{Schema}
 use Rattle.ham_syntax.specs.Checked.{IsChecked}
 use Rattle.ham_syntax.specs.declared.limits.TheConstants.{MAX_REPLICAS}
@@ -94,18 +95,6 @@ record IsAt (b : Bor Schema) (g : Global) (r : RecordsReader) (lines : Lines) : 
   object : r.object ≡ b
   alloc : r.alloc ≡ g
   spells : SpelledTo b.now r.draft lines
-
-chosen : {A : Type 0} (t : Bool) (x y : A) → cond t (Some x) None ≡ Some y → (t ≡ true) × (x ≡ y)
-chosen true x y e = (refl, same_Some x y e)
-chosen false x y e = absurd (none-some y e)
-
-steps : {A B : Type 0} (o : Option A) (f : A → Option B) (y : B) → option_and_then f o ≡ Some y → (x : A) × (o ≡ Some x) × (f x ≡ Some y)
-steps (Some x) f y e = (x, refl, e)
-steps None f y e = absurd (none-some y e)
-
-mapped : {A B : Type 0} (f : A → B) (o : Option A) (y : B) → option_map f o ≡ Some y → (x : A) × (o ≡ Some x) × (f x ≡ y)
-mapped f None y e = absurd (none-some y e)
-mapped f (Some x) y e = (x, refl, same_Some (f x) y e)
 
 module _ (o : Schema) (words : List (List ℕ)) (lines : Lines) where
   to : (d : Draft) (f : Draft) → f ≡ d → SpelledTo o f (lines ++ words ∷ []) → SpelledTo o d (lines ++ words ∷ [])
@@ -196,7 +185,7 @@ module _ (o : Schema) (words : List (List ℕ)) (lines : Lines) where
 
 taken : (b : Bor Schema) (g : Global) (r t : RecordsReader) (lines : Lines) (words : List (List ℕ)) → IsAt b g r lines → after r words ≡ Some t → IsAt b g t (lines ++ words ∷ [])
 taken b g r t lines words h e =
-    let w = mapped (λ d. record r { draft = d }) (option_and_then (draft_with r.draft) (line_of r.object.now words)) t e in
+    let w = mapped (option_and_then (draft_with r.draft) (line_of r.object.now words)) (λ d. record r { draft = d }) t e in
     let v = steps (line_of r.object.now words) (draft_with r.draft) w.0 w.1 in
     let s = line_spelled b.now words v.0 (ap (λ x. line_of x.now words) (sym h.object) ∙ v.1) in
     subst (λ u. IsAt b g u (lines ++ words ∷ [])) w.2

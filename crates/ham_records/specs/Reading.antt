@@ -2,7 +2,7 @@
 use Rattle.std.specs.Prelude.{ℕ, ◌^◌, nat_lt, nat_le, nat_eq, ◌&&◌, Bool, true, false, List, [], ◌∷◌, Option, Some, None, option_and_then, option_map, if◌then◌else◌, codes}
 use Rattle.std.specs.Cmp.Lexicographic.{pointwise}
 use Rattle.ham_text.specs.Cuts.{parts_of}
-use Rattle.ham_text.specs.Numbers.{number_of, numbers_within, ◌>>=◌}
+use Rattle.ham_text.specs.Numbers.{number_of, numbers_within, below, ◌>>=◌}
 use Rattle.ham_syntax.specs.declared.act.Act.{Act}
 use Rattle.ham_syntax.specs.declared.act.Place.{Place}
 use Rattle.ham_syntax.specs.declared.limits.TheConstants.{MAX_REPLICAS, MAX_PARAMS}
@@ -20,10 +20,6 @@ words_in (Some text) = parts_of 32 text
 unfoldable pub single_of : List (List ℕ) → Option (List ℕ)
 single_of (word ∷ []) = Some word
 single_of words = None
-
--- a number below a bound
-abbrev pub below : ℕ → ℕ → Option ℕ
-below bound n = if nat_lt n bound then Some n else None
 
 abbrev pub small_of : List ℕ → Option ℕ
 small_of word = number_of word >>= below 256

@@ -19,27 +19,27 @@ use Rattle.ham_world.specs.declared.refusal.StepRefusal.TheVariants as step
 use Rattle.ham_frame.specs.Spelling.{spelling}
 use Rattle.ham_world.specs.Worlds.{Run, Steps, Takes, Refuses as Refused, refusal_of, shown, bytes_of, same_code, equal_states}
 use Rattle.ham_replay.specs.declared.end.LineRefusal.TheVariants.{NoSuchReplica, NoSuchFrame}
-use Rattle.ham_replay.specs.Ends.{IsTurn, is_memory}
-use Rattle.ham_replay.specs.Replays.{answer_if, frame_if, event_by, event_turn, answer_of, answer_line, answer_lines, reason_of}
+use Rattle.ham_replay.specs.Ends.{IsLineOutcome, is_memory}
+use Rattle.ham_replay.specs.Replays.{answer_if, frame_if, event_by, event_outcome, answer_of, answer_line, answer_lines, reason_of}
 
 -- one line more
 line_text : (before mid after : List ℕ) (a : Answer) → mid ≡ before ++ answer_text a → after ≡ mid ++ 10 ∷ [] → after ≡ before ++ answer_lines (a ∷ [])
 line_text before mid after a put ended =
     ended ∙ ap (λ (t : List ℕ). t ++ 10 ∷ []) put ∙ append_assoc before (answer_text a) (10 ∷ []) ∙ ap (λ (t : List ℕ). before ++ t) (sym (append-nil (answer_line a)))
 
-pub answered : (w : Run) (before mid after : List ℕ) (b : Bool) (a : Answer) → b ≡ true → mid ≡ before ++ answer_text a → after ≡ mid ++ 10 ∷ [] → IsTurn w w before after (answer_if b w.notes a) None
+pub answered : (w : Run) (before mid after : List ℕ) (b : Bool) (a : Answer) → b ≡ true → mid ≡ before ++ answer_text a → after ≡ mid ++ 10 ∷ [] → IsLineOutcome w w before after (answer_if b w.notes a) None
 answered w before mid after true a is_so put ended = (refl, line_text before mid after a put ended)
 answered w before mid after false a is_so put ended = absurd cc
 
-pub unanswered : (w : Run) (before after : List ℕ) (b : Bool) (a : Answer) → b ≡ false → IsTurn w w before after (answer_if b w.notes a) (Some NoSuchReplica)
+pub unanswered : (w : Run) (before after : List ℕ) (b : Bool) (a : Answer) → b ≡ false → IsLineOutcome w w before after (answer_if b w.notes a) (Some NoSuchReplica)
 unanswered w before after false a not_so = (refl, refl)
 unanswered w before after true a not_so = absurd cc
 
-pub unlinked : (w : Run) (before after : List ℕ) (b : Bool) (f : Option Frame) → b ≡ false → IsTurn w w before after (frame_if b w.notes f) (Some NoSuchReplica)
+pub unlinked : (w : Run) (before after : List ℕ) (b : Bool) (f : Option Frame) → b ≡ false → IsLineOutcome w w before after (frame_if b w.notes f) (Some NoSuchReplica)
 unlinked w before after false f not_so = (refl, refl)
 unlinked w before after true f not_so = absurd cc
 
-pub unsent : (w : Run) (before after : List ℕ) (b : Bool) (f : Option Frame) → b ≡ true → f ≡ None → IsTurn w w before after (frame_if b w.notes f) (Some NoSuchFrame)
+pub unsent : (w : Run) (before after : List ℕ) (b : Bool) (f : Option Frame) → b ≡ true → f ≡ None → IsLineOutcome w w before after (frame_if b w.notes f) (Some NoSuchFrame)
 unsent w before after true None is_so none = (refl, refl)
 unsent w before after true (Some f) is_so none = absurd cc
 unsent w before after false f is_so none = absurd cc
@@ -48,7 +48,7 @@ same_bytes : (xs ys : List ℕ) → Some xs ≡ Some ys → xs ≡ ys
 same_bytes xs ys e = cc
 
 pub framed : (w : Run) (before mid after bytes : List ℕ) (b : Bool) (f : Option Frame) → b ≡ true → bytes_of f ≡ Some bytes → mid ≡ before ++ answer_text (answers.Frame bytes) → after ≡ mid ++ 10 ∷ [] →
-    IsTurn w w before after (frame_if b w.notes f) None
+    IsLineOutcome w w before after (frame_if b w.notes f) None
 framed w before mid after bytes true (Some f) is_so is put ended =
     (refl, line_text before mid after (answers.Frame (spelling f)) (put ∙ ap (λ (t : List ℕ). before ++ answer_text (answers.Frame t)) (sym (same_bytes (spelling f) bytes is))) ended)
 framed w before mid after bytes true None is_so is put ended = absurd cc
@@ -62,7 +62,7 @@ newest old new count e = omega (arith, e)
 
 taken_by : (old new : Run) (before after : List ℕ) (e : Event) (count : ℕ) (told : List Told) (why : Option StepRefusal) → refusal_of old.object (setting_of old.plan) old.notes e ≡ why → Takes old new e count →
     told ≡ map shown (reverse new.notes) → after ≡ before ++ answer_lines (map answer_of (drop (length told - count) told)) →
-    IsTurn old new before after (event_by old.object (setting_of old.plan) old.notes e why) None
+    IsLineOutcome old new before after (event_by old.object (setting_of old.plan) old.notes e why) None
 taken_by old new before after e count told None is h are put =
     let len : length told ≡ length new.notes = ap length are ∙ length-map (reverse new.notes) shown ∙ length-reverse new.notes in
     let at : length told - count ≡ length old.notes = newest (length old.notes) (length told) count (len ∙ h.turns) in (
@@ -73,21 +73,21 @@ taken_by old new before after e count told None is h are put =
 taken_by old new before after e count told (Some why) is h are put = absurd (let bad = sym is ∙ h.allowed in cc)
 
 pub takes : (old new : Run) (before after : List ℕ) (e : Event) (count : ℕ) (told : List Told) → Takes old new e count → told ≡ map shown (reverse new.notes) →
-    after ≡ before ++ answer_lines (map answer_of (drop (length told - count) told)) → IsTurn old new before after (event_turn old.object (setting_of old.plan) old.notes e) None
-unfolding event_turn
+    after ≡ before ++ answer_lines (map answer_of (drop (length told - count) told)) → IsLineOutcome old new before after (event_outcome old.object (setting_of old.plan) old.notes e) None
+unfolding event_outcome
 takes old new before after e count told h are put = taken_by old new before after e count told (refusal_of old.object (setting_of old.plan) old.notes e) refl h are put
 
 refused_by : (old new : Run) (before after : List ℕ) (e : Event) (why : StepRefusal) (found : Option StepRefusal) → found ≡ Some why → new ≡ old →
-    IsTurn old new before after (event_by old.object (setting_of old.plan) old.notes e found) (Some (reason_of why))
+    IsLineOutcome old new before after (event_by old.object (setting_of old.plan) old.notes e found) (Some (reason_of why))
 refused_by old new before after e why (Some other) is same = (ap reason_of (let e : why ≡ other = cc in e), same)
 refused_by old new before after e why None is same = absurd cc
 
-refuses : (old new : Run) (before after : List ℕ) (e : Event) (why : StepRefusal) → Refused old new e why → IsTurn old new before after (event_turn old.object (setting_of old.plan) old.notes e) (Some (reason_of why))
-unfolding event_turn
+refuses : (old new : Run) (before after : List ℕ) (e : Event) (why : StepRefusal) → Refused old new e why → IsLineOutcome old new before after (event_outcome old.object (setting_of old.plan) old.notes e) (Some (reason_of why))
+unfolding event_outcome
 refuses old new before after e why h = refused_by old new before after e why (refusal_of old.object (setting_of old.plan) old.notes e) h.0 h.1
 
 -- a step that was refused, and not for want of memory
-pub refuses_why : (old new : Run) (before after : List ℕ) (e : Event) (why : StepRefusal) → Steps old new e (Err why) → is_memory why ≡ false → IsTurn old new before after (event_turn old.object (setting_of old.plan) old.notes e) (Some (reason_of why))
+pub refuses_why : (old new : Run) (before after : List ℕ) (e : Event) (why : StepRefusal) → Steps old new e (Err why) → is_memory why ≡ false → IsLineOutcome old new before after (event_outcome old.object (setting_of old.plan) old.notes e) (Some (reason_of why))
 refuses_why old new before after e step.NoSuchReplica h other = refuses old new before after e step.NoSuchReplica h
 refuses_why old new before after e step.NoSuchFrame h other = refuses old new before after e step.NoSuchFrame h
 refuses_why old new before after e step.BadCut h other = refuses old new before after e step.BadCut h

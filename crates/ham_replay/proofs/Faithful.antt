@@ -25,7 +25,7 @@ use Rattle.ham_grammar.specs.Lines.{IsReading, is_skipped}
 use Rattle.ham_grammar.specs.Computed.{read_of}
 use Rattle.ham_world.specs.declared.refusal.StepRefusal.{StepRefusal}
 use Rattle.ham_world.specs.Worlds.{refusal_of, taken}
-use Rattle.ham_replay.specs.Replays.{Turn, Refuses, Answers, event_by, event_turn, answer_if, frame_if, query_turn, read_turn, turn_of, played_from, played_first, played_lines, played}
+use Rattle.ham_replay.specs.Replays.{LineOutcome, Refuses, Answers, event_by, event_outcome, answer_if, frame_if, query_outcome, read_outcome, line_outcome, played_from, played_first, played_lines, played}
 use Rattle.ham_replay.specs.Claims.{ArePlans, settings_of, setting_by, IsPlayedFaithfully, IsPlayedRun}
 
 -- notes of a run that inputs give
@@ -61,8 +61,8 @@ module _ (o : Schema) (y : Setting) where
   after_frame true None notes new told turned = absurd cc
   after_frame false f notes new told turned = absurd cc
 
-  after_query : (notes new : List Note) (q : Query) (told : List Answer) → query_turn o y notes q ≡ Answers new told → notes ≡ new
-  unfolding query_turn
+  after_query : (notes new : List Note) (q : Query) (told : List Answer) → query_outcome o y notes q ≡ Answers new told → notes ≡ new
+  unfolding query_outcome
   after_query notes new (queries.Show r c k) told turned = after_answer _ notes new _ told turned
   after_query notes new (queries.Rows r c) told turned = after_answer _ notes new _ told turned
   after_query notes new (queries.Log r) told turned = after_answer _ notes new _ told turned
@@ -71,28 +71,28 @@ module _ (o : Schema) (y : Setting) where
   after_query notes new (queries.Frame f t k) told turned = after_frame _ _ notes new told turned
   after_query notes new (queries.Compare r s) told turned = after_answer _ notes new _ told turned
 
-  after_read : (notes new : List Note) (found : Result Line LineFault) (told : List Answer) → read_turn o y notes found ≡ Answers new told → IsMade o y notes → IsMade o y new
-  unfolding event_turn
+  after_read : (notes new : List Note) (found : Result Line LineFault) (told : List Answer) → read_outcome o y notes found ≡ Answers new told → IsMade o y notes → IsMade o y new
+  unfolding event_outcome
   after_read notes new (Ok (Replicas n)) told turned h = absurd cc
   after_read notes new (Ok (Act e)) told turned h = after_event notes new e told (refusal_of o y notes e) turned h
   after_read notes new (Ok (Ask q)) told turned h = subst (IsMade o y) (after_query notes new q told turned) h
   after_read notes new (Err f) told turned h = absurd cc
 
-  after_line : (b : Bool) (notes new : List Note) (found : Result Line LineFault) (told : List Answer) → (if b then Answers notes [] else read_turn o y notes found) ≡ Answers new told → IsMade o y notes → IsMade o y new
+  after_line : (b : Bool) (notes new : List Note) (found : Result Line LineFault) (told : List Answer) → (if b then Answers notes [] else read_outcome o y notes found) ≡ Answers new told → IsMade o y notes → IsMade o y new
   after_line true notes new found told turned h = subst (IsMade o y) (same_notes _ _ _ _ turned) h
   after_line false notes new found told turned h = after_read notes new found told turned h
 
-  after_turn : (notes new : List Note) (l : List ℕ) (told : List Answer) → turn_of o y notes l ≡ Answers new told → IsMade o y notes → IsMade o y new
-  unfolding turn_of
+  after_turn : (notes new : List Note) (l : List ℕ) (told : List Answer) → line_outcome o y notes l ≡ Answers new told → IsMade o y notes → IsMade o y new
+  unfolding line_outcome
   after_turn notes new l told turned h = after_line (is_skipped l) notes new (read_of o l) told turned h
 
-  played_by : (count number : ℕ) (notes : List Note) (l : List ℕ) (ls : List (List ℕ)) (t : Turn) → turn_of o y notes l ≡ t →
+  played_by : (count number : ℕ) (notes : List Note) (l : List ℕ) (ls : List (List ℕ)) (t : LineOutcome) → line_outcome o y notes l ≡ t →
       (played_from o y count number notes (l ∷ ls)).notes ≡ (elim t [ Refuses why ↦ notes | Answers new told ↦ (played_from o y count (number + 1) new ls).notes ])
   unfolding played_from
   played_by count number notes l ls (Refuses why) e = rw (played_from, e) refl
   played_by count number notes l ls (Answers new told) e = rw (played_from, e) refl
 
-  after_by : (count number : ℕ) (notes : List Note) (l : List ℕ) (ls : List (List ℕ)) (t : Turn) → turn_of o y notes l ≡ t → IsMade o y notes →
+  after_by : (count number : ℕ) (notes : List Note) (l : List ℕ) (ls : List (List ℕ)) (t : LineOutcome) → line_outcome o y notes l ≡ t → IsMade o y notes →
       ((new : List Note) → IsMade o y new → IsMade o y (played_from o y count (number + 1) new ls).notes) → IsMade o y (played_from o y count number notes (l ∷ ls)).notes
   after_by count number notes l ls (Refuses why) e h rest = subst (IsMade o y) (sym (played_by count number notes l ls (Refuses why) e)) h
   after_by count number notes l ls (Answers new told) e h rest = subst (IsMade o y) (sym (played_by count number notes l ls (Answers new told) e)) (rest new (after_turn notes new l told e h))
@@ -100,9 +100,9 @@ module _ (o : Schema) (y : Setting) where
   after_lines : (count number : ℕ) (notes : List Note) (ls : List (List ℕ)) → IsMade o y notes → IsMade o y (played_from o y count number notes ls).notes
   unfolding played_from
   after_lines count number notes [] h = h
-  after_lines count number notes (l ∷ ls) h = after_by count number notes l ls (turn_of o y notes l) refl h (λ new k. after_lines count (number + 1) new ls k)
+  after_lines count number notes (l ∷ ls) h = after_by count number notes l ls (line_outcome o y notes l) refl h (λ new k. after_lines count (number + 1) new ls k)
 
-  replicas_by : (count number : ℕ) (notes : List Note) (l : List ℕ) (ls : List (List ℕ)) (t : Turn) → turn_of o y notes l ≡ t →
+  replicas_by : (count number : ℕ) (notes : List Note) (l : List ℕ) (ls : List (List ℕ)) (t : LineOutcome) → line_outcome o y notes l ≡ t →
       ((new : List Note) → (played_from o y count (number + 1) new ls).replicas ≡ Some count) → (played_from o y count number notes (l ∷ ls)).replicas ≡ Some count
   unfolding played_from
   replicas_by count number notes l ls (Refuses why) e rest = rw (played_from, e) refl
@@ -111,7 +111,7 @@ module _ (o : Schema) (y : Setting) where
   replicas_are : (count number : ℕ) (notes : List Note) (ls : List (List ℕ)) → (played_from o y count number notes ls).replicas ≡ Some count
   unfolding played_from
   replicas_are count number notes [] = refl
-  replicas_are count number notes (l ∷ ls) = replicas_by count number notes l ls (turn_of o y notes l) refl (λ new. replicas_are count (number + 1) new ls)
+  replicas_are count number notes (l ∷ ls) = replicas_by count number notes l ls (line_outcome o y notes l) refl (λ new. replicas_are count (number + 1) new ls)
 
 -- what was played in a world of n replicas is made in its setting, and there are 1 to 8 of them
 pub record IsMadeOf (o : Schema) (settings : ℕ → Setting) (notes : List Note) (n : ℕ) : Type 0 where

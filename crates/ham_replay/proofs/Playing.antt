@@ -17,12 +17,12 @@ use Rattle.ham_replay.specs.declared.end.LineRefusal.{LineRefusal}
 use Rattle.ham_replay.specs.declared.end.LineRefusal.TheVariants.{NotALine}
 use Rattle.ham_replay.specs.declared.end.Stop.{Stop}
 use Rattle.ham_replay.specs.declared.end.Stop.TheVariants.{Sink, Memory}
-use Rattle.ham_replay.specs.Ends.{IsTurn, Gathers, StopsWith, left}
-use Rattle.ham_replay.specs.Replays.{Turn, Refuses, Answers, Played, turn_of, answer_line, refused_at, ended, then_played, played_from, played_made, played_first, played_lines}
+use Rattle.ham_replay.specs.Ends.{IsLineOutcome, Gathers, StopsWith, left}
+use Rattle.ham_replay.specs.Replays.{LineOutcome, Refuses, Answers, Played, line_outcome, answer_line, refused_at, ended, then_played, played_from, played_made, played_first, played_lines}
 
 -- ---- one line more of what is played
 
-answered_by : (r new : Run) (number : ℕ) (l : List ℕ) (ls : List (List ℕ)) (text : List ℕ) (t : Turn) → turn_of r.object (setting_of r.plan) r.notes l ≡ t → IsTurn r new [] text t None →
+answered_by : (r new : Run) (number : ℕ) (l : List ℕ) (ls : List (List ℕ)) (text : List ℕ) (t : LineOutcome) → line_outcome r.object (setting_of r.plan) r.notes l ≡ t → IsLineOutcome r new [] text t None →
     left r number (l ∷ ls) ≡ then_played text (left new (number + 1) ls)
 unfolding played_from
 answered_by r new number l ls text (Answers notes told) e h = rw (played_from, e)
@@ -30,31 +30,31 @@ answered_by r new number l ls text (Answers notes told) e h = rw (played_from, e
     ∙ ap (λ (x : Run). then_played text (left x (number + 1) ls)) (sym h.0))
 answered_by r new number l ls text (Refuses why) e h = absurd h
 
-refused_by : (r new : Run) (number : ℕ) (l : List ℕ) (ls : List (List ℕ)) (text : List ℕ) (why : LineRefusal) (t : Turn) → turn_of r.object (setting_of r.plan) r.notes l ≡ t → IsTurn r new [] text t (Some why) →
+refused_by : (r new : Run) (number : ℕ) (l : List ℕ) (ls : List (List ℕ)) (text : List ℕ) (why : LineRefusal) (t : LineOutcome) → line_outcome r.object (setting_of r.plan) r.notes l ≡ t → IsLineOutcome r new [] text t (Some why) →
     left r number (l ∷ ls) ≡ refused_at (Some r.plan.replicas) r.notes (record { line = number; why = why })
 unfolding played_from
 refused_by r new number l ls text why (Refuses reason) e h = rw (played_from, e) (ap (λ (x : LineRefusal). refused_at (Some r.plan.replicas) r.notes (record { line = number; why = x })) (sym h.0))
 refused_by r new number l ls text why (Answers notes told) e h = absurd h
 
-going_by : (r new : Run) (text : List ℕ) (t : Turn) → IsTurn r new [] text t None → r.stopped ≡ false → new.stopped ≡ false
+going_by : (r new : Run) (text : List ℕ) (t : LineOutcome) → IsLineOutcome r new [] text t None → r.stopped ≡ false → new.stopped ≡ false
 going_by r new text (Answers notes told) h going = ap (λ (x : Run). x.stopped) h.0 ∙ going
 going_by r new text (Refuses why) h going = absurd h
 
-pub still_going : (r new : Run) (l text : List ℕ) → IsTurn r new [] text (turn_of r.object (setting_of r.plan) r.notes l) None → r.stopped ≡ false → new.stopped ≡ false
-still_going r new l text h going = going_by r new text (turn_of r.object (setting_of r.plan) r.notes l) h going
+pub still_going : (r new : Run) (l text : List ℕ) → IsLineOutcome r new [] text (line_outcome r.object (setting_of r.plan) r.notes l) None → r.stopped ≡ false → new.stopped ≡ false
+still_going r new l text h going = going_by r new text (line_outcome r.object (setting_of r.plan) r.notes l) h going
 
 -- into an empty text
-pub turned : (r new : Run) (before text : List ℕ) (t : Turn) (found want : Option LineRefusal) → before ≡ [] → found ≡ want → IsTurn r new before text t found → IsTurn r new [] text t want
-turned r new before text t found want b f h = subst (λ (x : List ℕ). IsTurn r new x text t want) b (subst (λ (x : Option LineRefusal). IsTurn r new before text t x) f h)
+pub turned : (r new : Run) (before text : List ℕ) (t : LineOutcome) (found want : Option LineRefusal) → before ≡ [] → found ≡ want → IsLineOutcome r new before text t found → IsLineOutcome r new [] text t want
+turned r new before text t found want b f h = subst (λ (x : List ℕ). IsLineOutcome r new x text t want) b (subst (λ (x : Option LineRefusal). IsLineOutcome r new before text t x) f h)
 
 -- the lines that are left, by the first of them
-pub next_answered : (number : ℕ) (r new : Run) (rest line after text : List ℕ) → lines_of rest ≡ line ∷ lines_of after → IsTurn r new [] text (turn_of r.object (setting_of r.plan) r.notes line) None →
+pub next_answered : (number : ℕ) (r new : Run) (rest line after text : List ℕ) → lines_of rest ≡ line ∷ lines_of after → IsLineOutcome r new [] text (line_outcome r.object (setting_of r.plan) r.notes line) None →
     left r number (lines_of rest) ≡ then_played text (left new (number + 1) (lines_of after))
-next_answered number r new rest line after text e h = ap (left r number) e ∙ answered_by r new number line (lines_of after) text (turn_of r.object (setting_of r.plan) r.notes line) refl h
+next_answered number r new rest line after text e h = ap (left r number) e ∙ answered_by r new number line (lines_of after) text (line_outcome r.object (setting_of r.plan) r.notes line) refl h
 
-pub next_refused : (number : ℕ) (r new : Run) (rest line after text : List ℕ) (why : LineRefusal) → lines_of rest ≡ line ∷ lines_of after → IsTurn r new [] text (turn_of r.object (setting_of r.plan) r.notes line) (Some why) →
+pub next_refused : (number : ℕ) (r new : Run) (rest line after text : List ℕ) (why : LineRefusal) → lines_of rest ≡ line ∷ lines_of after → IsLineOutcome r new [] text (line_outcome r.object (setting_of r.plan) r.notes line) (Some why) →
     left r number (lines_of rest) ≡ refused_at (Some r.plan.replicas) r.notes (record { line = number; why = why })
-next_refused number r new rest line after text why e h = ap (left r number) e ∙ refused_by r new number line (lines_of after) text why (turn_of r.object (setting_of r.plan) r.notes line) refl h
+next_refused number r new rest line after text why e h = ap (left r number) e ∙ refused_by r new number line (lines_of after) text why (line_outcome r.object (setting_of r.plan) r.notes line) refl h
 
 ended_by : (number : ℕ) (r : Run) → left r number [] ≡ ended (Some r.plan.replicas) r.notes
 unfolding played_from

@@ -13,15 +13,15 @@ use Rattle.ham_replay.specs.declared.end.Stop.TheVariants.{Sink, Memory}
 use Rattle.ham_replay.specs.declared.end.ReplayEnd.{ReplayEnd}
 use Rattle.ham_replay.specs.declared.end.ReplayEnd.TheVariants as ends
 use Rattle.ham_replay.specs.declared.end.LineRefusal.{LineRefusal}
-use Rattle.ham_replay.specs.Replays.{Turn, Refuses, Answers, Played, answer_lines, query_turn, played_from}
+use Rattle.ham_replay.specs.Replays.{LineOutcome, Refuses, Answers, Played, answer_lines, query_outcome, played_from}
 
--- what a line came to is its turn: none where it was answered, and then these are the notes, and the text has the answers more; or the
+-- what a line came to is its outcome: no reason where it was answered, and then these are the notes, and the text has the answers more; or the
 -- reason why it was refused
-abbrev pub IsTurn : Run → Run → List ℕ → List ℕ → Turn → Option LineRefusal → Type 0
-IsTurn old new before after (Refuses why) (Some reason) = (reason ≡ why) × (new ≡ old)
-IsTurn old new before after (Answers notes told) None = (new ≡ record old { notes = notes }) × (after ≡ before ++ answer_lines told)
-IsTurn old new before after (Refuses why) None = ⊥
-IsTurn old new before after (Answers notes told) (Some reason) = ⊥
+abbrev pub IsLineOutcome : Run → Run → List ℕ → List ℕ → LineOutcome → Option LineRefusal → Type 0
+IsLineOutcome old new before after (Refuses why) (Some reason) = (reason ≡ why) × (new ≡ old)
+IsLineOutcome old new before after (Answers notes told) None = (new ≡ record old { notes = notes }) × (after ≡ before ++ answer_lines told)
+IsLineOutcome old new before after (Refuses why) None = ⊥
+IsLineOutcome old new before after (Answers notes told) (Some reason) = ⊥
 
 -- it was memory that was wanting
 abbrev pub is_memory : StepRefusal → Bool
@@ -33,8 +33,8 @@ is_memory step.SentFull = false
 is_memory (step.Issue why) = false
 
 -- what a run answers to a query
-abbrev pub asked : Run → Query → Turn
-asked r q = query_turn r.object (setting_of r.plan) r.notes q
+abbrev pub asked : Run → Query → LineOutcome
+asked r q = query_outcome r.object (setting_of r.plan) r.notes q
 
 -- what is played in a world from a line on
 abbrev pub left : Run → ℕ → List (List ℕ) → Played

@@ -1,5 +1,5 @@
 -- The text of the one run of a schedule: a fold over its lines.
---     turn_of       what a line comes to: a refusal, or its answers and the notes after it
+--     line_outcome       what a line comes to: a refusal, or its answers and the notes after it
 --     played        what a schedule comes to, in the setting of the number of replicas that its first line names
 use Rattle.std.specs.Prelude.{ℕ, ◌+◌, Bool, true, false, ◌&&◌, if◌then◌else◌, List, [], ◌∷◌, ◌++◌, map, drop, length, reverse, Option, Some, None, Result, Ok, Err, codes}
 use Rattle.std.specs.List.{flat_map}
@@ -40,9 +40,9 @@ use Rattle.ham_replay.specs.declared.end.Refusal.{Refusal}
 -- ---- one line
 
 -- a line is refused, or it leaves these notes and is answered, a line each
-pub data Turn : Type 0 where
-  Refuses : LineRefusal → Turn
-  Answers : List Note → List Answer → Turn
+pub data LineOutcome : Type 0 where
+  Refuses : LineRefusal → LineOutcome
+  Answers : List Note → List Answer → LineOutcome
 
 abbrev pub reason_of_fault : LineFault → LineRefusal
 reason_of_fault faults.NotALine = NotALine
@@ -81,45 +81,45 @@ abbrev pub answers_since : List Note → List Note → List Answer
 answers_since old new = map answer_of (drop (length old) (map shown (reverse new)))
 
 -- an event, where the world takes it
-abbrev pub event_by : Schema → Setting → List Note → Event → Option StepRefusal → Turn
+abbrev pub event_by : Schema → Setting → List Note → Event → Option StepRefusal → LineOutcome
 event_by o y notes e (Some why) = Refuses (reason_of why)
 event_by o y notes e None = Answers (taken o y notes (inputs_of e)) (answers_since notes (taken o y notes (inputs_of e)))
 
-unfoldable pub event_turn : Schema → Setting → List Note → Event → Turn
-event_turn o y notes e = event_by o y notes e (refusal_of o y notes e)
+unfoldable pub event_outcome : Schema → Setting → List Note → Event → LineOutcome
+event_outcome o y notes e = event_by o y notes e (refusal_of o y notes e)
 
 -- an answer that needs this
-abbrev pub answer_if : Bool → List Note → Answer → Turn
+abbrev pub answer_if : Bool → List Note → Answer → LineOutcome
 answer_if true notes a = Answers notes (a ∷ [])
 answer_if false notes a = Refuses NoSuchReplica
 
-abbrev pub frame_by : List Note → Option Frame → Turn
+abbrev pub frame_by : List Note → Option Frame → LineOutcome
 frame_by notes None = Refuses NoSuchFrame
 frame_by notes (Some f) = Answers notes (answers.Frame (spelling f) ∷ [])
 
-abbrev pub frame_if : Bool → List Note → Option Frame → Turn
+abbrev pub frame_if : Bool → List Note → Option Frame → LineOutcome
 frame_if true notes f = frame_by notes f
 frame_if false notes f = Refuses NoSuchReplica
 
-unfoldable pub query_turn : Schema → Setting → List Note → Query → Turn
-query_turn o y notes (queries.Show r counter key) = answer_if (is_replica y r) notes (answers.Value (value (state_at o y notes r) counter key))
-query_turn o y notes (queries.Rows r relation) = answer_if (is_replica y r) notes (answers.Rows (rows (state_at o y notes r) relation))
-query_turn o y notes (queries.Log r) = answer_if (is_replica y r) notes (answers.Log (log_of notes r))
-query_turn o y notes (queries.Verdict r g k) = answer_if (is_replica y r) notes (answers.Asked (asked_of notes r g k))
-query_turn o y notes (queries.Sent f t) = answer_if (are_linked y f t) notes (answers.Sent (length (on_link notes f t)))
-query_turn o y notes (queries.Frame f t k) = frame_if (are_linked y f t) notes (numbered (on_link notes f t) k)
-query_turn o y notes (queries.Compare r s) = answer_if (is_replica y r && is_replica y s) notes
+unfoldable pub query_outcome : Schema → Setting → List Note → Query → LineOutcome
+query_outcome o y notes (queries.Show r counter key) = answer_if (is_replica y r) notes (answers.Value (value (state_at o y notes r) counter key))
+query_outcome o y notes (queries.Rows r relation) = answer_if (is_replica y r) notes (answers.Rows (rows (state_at o y notes r) relation))
+query_outcome o y notes (queries.Log r) = answer_if (is_replica y r) notes (answers.Log (log_of notes r))
+query_outcome o y notes (queries.Verdict r g k) = answer_if (is_replica y r) notes (answers.Asked (asked_of notes r g k))
+query_outcome o y notes (queries.Sent f t) = answer_if (are_linked y f t) notes (answers.Sent (length (on_link notes f t)))
+query_outcome o y notes (queries.Frame f t k) = frame_if (are_linked y f t) notes (numbered (on_link notes f t) k)
+query_outcome o y notes (queries.Compare r s) = answer_if (is_replica y r && is_replica y s) notes
     (answers.Compared (same_calls (log_of notes r) (log_of notes s)) (equal_states (state_at o y notes r) (state_at o y notes s)))
 
-abbrev pub read_turn : Schema → Setting → List Note → Result Line LineFault → Turn
-read_turn o y notes (Ok (lines.Replicas n)) = Refuses NotALine
-read_turn o y notes (Ok (lines.Act e)) = event_turn o y notes e
-read_turn o y notes (Ok (lines.Ask q)) = query_turn o y notes q
-read_turn o y notes (Err f) = Refuses (reason_of_fault f)
+abbrev pub read_outcome : Schema → Setting → List Note → Result Line LineFault → LineOutcome
+read_outcome o y notes (Ok (lines.Replicas n)) = Refuses NotALine
+read_outcome o y notes (Ok (lines.Act e)) = event_outcome o y notes e
+read_outcome o y notes (Ok (lines.Ask q)) = query_outcome o y notes q
+read_outcome o y notes (Err f) = Refuses (reason_of_fault f)
 
 -- a line after the one that made the world
-unfoldable pub turn_of : Schema → Setting → List Note → List ℕ → Turn
-turn_of o y notes line = if is_skipped line then Answers notes [] else read_turn o y notes (read_of o line)
+unfoldable pub line_outcome : Schema → Setting → List Note → List ℕ → LineOutcome
+line_outcome o y notes line = if is_skipped line then Answers notes [] else read_outcome o y notes (read_of o line)
 
 -- ---- all lines
 
@@ -166,7 +166,7 @@ ended replicas notes = record { text = answer_line answers.End; refused = None; 
 -- the lines from the one with this number on, in a world of N replicas
 unfoldable pub played_from : Schema → Setting → ℕ → ℕ → List Note → List (List ℕ) → Played
 played_from o y count number notes [] = ended (Some count) notes
-played_from o y count number notes (l ∷ ls) = elim (turn_of o y notes l) [
+played_from o y count number notes (l ∷ ls) = elim (line_outcome o y notes l) [
   | Refuses why ↦ refused_at (Some count) notes (record { line = number; why = why })
   | Answers new told ↦ then_played (answer_lines told) (played_from o y count (number + 1) new ls)
 ]

@@ -8,7 +8,7 @@ ghost use Rattle.ham_lines.specs.declared.answer.Answer.TheVariants as answers;
 ghost use Rattle.ham_grammar.specs.declared.line.Query.TheVariants as queries;
 ghost use Rattle.ham_world.specs.Worlds.{Run, are_linked, same_calls, state_at, equal_states};
 ghost use Rattle.ham_replay.specs.Replays as replays;
-ghost use Rattle.ham_replay.specs.Ends.{IsTurn, asked};
+ghost use Rattle.ham_replay.specs.Ends.{IsLineOutcome, asked};
 
 use crate::end::LineRefusal;
 use ham_grammar::Query;
@@ -26,7 +26,7 @@ pub(crate) fn ask(
     text: &mut Bytes,
 ) -> Result<Option<LineRefusal>, NoMemory>
     requires { world.now.stopped ≡ false }
-    ensures { IfOk result (λ refused. IsTurn world.now world.now text.old text.new (asked world.now query) refused) }
+    ensures { IfOk result (λ refused. IsLineOutcome world.now world.now text.old text.new (asked world.now query) refused) }
 {
     match query {
         Query::Show {
@@ -72,7 +72,7 @@ fn linked(world: &World, from: u64, to: u64) -> Option<(u8, u8)>
 }
 
 /// The value of a counter at a replica.
-#[tactic(auto, unfolding(crate::specs::Replays::query_turn))]
+#[tactic(auto, unfolding(crate::specs::Replays::query_outcome))]
 fn show(
     world: &World,
     replica: u64,
@@ -81,7 +81,7 @@ fn show(
     text: &mut Bytes,
 ) -> Result<Option<LineRefusal>, NoMemory>
     requires { world.now.stopped ≡ false }
-    ensures { IfOk result (λ refused. IsTurn world.now world.now text.old text.new (asked world.now (queries.Show replica counter key)) refused) }
+    ensures { IfOk result (λ refused. IsLineOutcome world.now world.now text.old text.new (asked world.now (queries.Show replica counter key)) refused) }
 {
     let Some(at) = named(world, replica) else {
         return Ok(Some(LineRefusal::NoSuchReplica));
@@ -92,7 +92,7 @@ fn show(
 }
 
 /// The rows of a relation at a replica.
-#[tactic(auto, unfolding(crate::specs::Replays::query_turn))]
+#[tactic(auto, unfolding(crate::specs::Replays::query_outcome))]
 fn rows(
     alloc: Global,
     world: &World,
@@ -101,7 +101,7 @@ fn rows(
     text: &mut Bytes,
 ) -> Result<Option<LineRefusal>, NoMemory>
     requires { world.now.stopped ≡ false }
-    ensures { IfOk result (λ refused. IsTurn world.now world.now text.old text.new (asked world.now (queries.Rows replica relation)) refused) }
+    ensures { IfOk result (λ refused. IsLineOutcome world.now world.now text.old text.new (asked world.now (queries.Rows replica relation)) refused) }
 {
     let Some(at) = named(world, replica) else {
         return Ok(Some(LineRefusal::NoSuchReplica));
@@ -113,10 +113,10 @@ fn rows(
 }
 
 /// The log of a replica.
-#[tactic(auto, unfolding(crate::specs::Replays::query_turn))]
+#[tactic(auto, unfolding(crate::specs::Replays::query_outcome))]
 fn log(world: &World, replica: u64, text: &mut Bytes) -> Result<Option<LineRefusal>, NoMemory>
     requires { world.now.stopped ≡ false }
-    ensures { IfOk result (λ refused. IsTurn world.now world.now text.old text.new (asked world.now (queries.Log replica)) refused) }
+    ensures { IfOk result (λ refused. IsLineOutcome world.now world.now text.old text.new (asked world.now (queries.Log replica)) refused) }
 {
     let Some(at) = named(world, replica) else {
         return Ok(Some(LineRefusal::NoSuchReplica));
@@ -127,7 +127,7 @@ fn log(world: &World, replica: u64, text: &mut Bytes) -> Result<Option<LineRefus
 }
 
 /// What a replica knows of a request.
-#[tactic(auto, unfolding(crate::specs::Replays::query_turn))]
+#[tactic(auto, unfolding(crate::specs::Replays::query_outcome))]
 fn verdict(
     world: &World,
     replica: u64,
@@ -136,7 +136,7 @@ fn verdict(
     text: &mut Bytes,
 ) -> Result<Option<LineRefusal>, NoMemory>
     requires { world.now.stopped ≡ false }
-    ensures { IfOk result (λ refused. IsTurn world.now world.now text.old text.new (asked world.now (queries.Verdict replica group number)) refused) }
+    ensures { IfOk result (λ refused. IsLineOutcome world.now world.now text.old text.new (asked world.now (queries.Verdict replica group number)) refused) }
 {
     let Some(at) = named(world, replica) else {
         return Ok(Some(LineRefusal::NoSuchReplica));
@@ -147,7 +147,7 @@ fn verdict(
 }
 
 /// How many frames were sent on a link.
-#[tactic(auto, unfolding(crate::specs::Replays::query_turn))]
+#[tactic(auto, unfolding(crate::specs::Replays::query_outcome))]
 fn sent(
     world: &World,
     from: u64,
@@ -155,7 +155,7 @@ fn sent(
     text: &mut Bytes,
 ) -> Result<Option<LineRefusal>, NoMemory>
     requires { world.now.stopped ≡ false }
-    ensures { IfOk result (λ refused. IsTurn world.now world.now text.old text.new (asked world.now (queries.Sent from to)) refused) }
+    ensures { IfOk result (λ refused. IsLineOutcome world.now world.now text.old text.new (asked world.now (queries.Sent from to)) refused) }
 {
     let Some((f, t)) = linked(world, from, to) else {
         return Ok(Some(LineRefusal::NoSuchReplica));
@@ -166,7 +166,7 @@ fn sent(
 }
 
 /// The bytes of a sent frame.
-#[tactic(auto, unfolding(crate::specs::Replays::query_turn))]
+#[tactic(auto, unfolding(crate::specs::Replays::query_outcome))]
 fn frame_bytes(
     world: &World,
     from: u64,
@@ -175,7 +175,7 @@ fn frame_bytes(
     text: &mut Bytes,
 ) -> Result<Option<LineRefusal>, NoMemory>
     requires { world.now.stopped ≡ false }
-    ensures { IfOk result (λ refused. IsTurn world.now world.now text.old text.new (asked world.now (queries.Frame from to frame)) refused) }
+    ensures { IfOk result (λ refused. IsLineOutcome world.now world.now text.old text.new (asked world.now (queries.Frame from to frame)) refused) }
 {
     let Some((f, t)) = linked(world, from, to) else {
         return Ok(Some(LineRefusal::NoSuchReplica));
@@ -189,7 +189,7 @@ fn frame_bytes(
 }
 
 /// Whether the logs of two replicas hold the same calls, and whether their states are equal.
-#[tactic(auto, unfolding(crate::specs::Replays::query_turn))]
+#[tactic(auto, unfolding(crate::specs::Replays::query_outcome))]
 fn compare(
     world: &World,
     one: u64,
@@ -197,7 +197,7 @@ fn compare(
     text: &mut Bytes,
 ) -> Result<Option<LineRefusal>, NoMemory>
     requires { world.now.stopped ≡ false }
-    ensures { IfOk result (λ refused. IsTurn world.now world.now text.old text.new (asked world.now (queries.Compare one other)) refused) }
+    ensures { IfOk result (λ refused. IsLineOutcome world.now world.now text.old text.new (asked world.now (queries.Compare one other)) refused) }
 {
     let Some(r) = named(world, one) else {
         return Ok(Some(LineRefusal::NoSuchReplica));

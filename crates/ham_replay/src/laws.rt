@@ -7,7 +7,7 @@ ghost use Rattle.ham_turns.specs.Settings.{Setting};
 ghost use Rattle.ham_turns.specs.declared.event.Event.TheVariants as events;
 ghost use Rattle.ham_runs.specs.Runs.{Note};
 ghost use Rattle.ham_world.specs.Worlds.{refusal_of};
-ghost use Rattle.ham_replay.specs.Replays.{played, event_turn};
+ghost use Rattle.ham_replay.specs.Replays.{played, event_outcome};
 ghost use Rattle.ham_replay.specs.Claims.{ArePlans, IsPlayedFaithfully, IsPlayedRun, settings_of};
 
 use ham_grammar::laws::readings_are_computed;
@@ -34,5 +34,5 @@ pub fn replays_are_runs()
 pub fn cuts_change_no_answer()
     ensures { (o : Schema) (y : Setting) (notes : List Note) (from to first last : ℕ) (cuts others : List ℕ) →
         refusal_of o y notes (events.Pieces from to first last cuts) ≡ None → refusal_of o y notes (events.Pieces from to first last others) ≡ None →
-        event_turn o y notes (events.Pieces from to first last cuts) ≡ event_turn o y notes (events.Pieces from to first last others) }
+        event_outcome o y notes (events.Pieces from to first last cuts) ≡ event_outcome o y notes (events.Pieces from to first last others) }
 {}

@@ -7,10 +7,10 @@
 mod asking;
 mod end;
 pub mod laws;
+pub mod line;
 mod play;
 mod refusals;
 mod taking;
-pub mod turn;
 
 pub use asking::compared;
 pub use end::{LineRefusal, Refusal, ReplayEnd};

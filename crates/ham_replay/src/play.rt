@@ -13,8 +13,8 @@ ghost use Rattle.ham_replay.specs.Ends.{EndsAs, Writes, Puts, Gathers, StopsWith
 
 use crate::end::{LineRefusal, Refusal, ReplayEnd, Stop};
 use crate::laws::replays_are_faithful;
+use crate::line::play_line;
 use crate::refusals::refusal_text;
-use crate::turn::turn;
 use ham_bytes::{Gatherer, Sink};
 use ham_grammar::{Line, LineFault, is_skipped, read_line};
 use ham_lines::{Answer, push_answer};
@@ -198,7 +198,7 @@ fn play_rest<K: Sink>(
     while !rest.is_empty() {
         let (line, after) = first_line(rest);
         text.truncate(0);
-        match turn(alloc, world, line, &mut text)? {
+        match play_line(alloc, world, line, &mut text)? {
             None => gatherer.write(out, text.items())?,
             Some(why) => {
                 let refusal = Refusal { line: number, why };

@@ -4,7 +4,7 @@ ghost use Rattle.std.specs.Prelude.{◌≡◌, ◌+◌, ◌-◌, ◌≤◌, ◌+
 ghost use Rattle.ham_turns.specs.Settings.{setting_of};
 ghost use Rattle.ham_lines.specs.Texts.{answer_text};
 ghost use Rattle.ham_replay.specs.Replays as replays;
-ghost use Rattle.ham_replay.specs.Ends.{IsTurn};
+ghost use Rattle.ham_replay.specs.Ends.{IsLineOutcome};
 
 use crate::end::LineRefusal;
 use crate::refusals::reason_of;
@@ -16,14 +16,14 @@ use ham_world::{Note, World};
 use std::alloc::Global;
 
 /// Takes an event, and answers its turns.
-#[tactic(auto, unfolding(crate::specs::Replays::event_turn))]
+#[tactic(auto, unfolding(crate::specs::Replays::event_outcome))]
 pub(crate) fn take(
     alloc: Global,
     world: &mut World,
     event: &Event,
     text: &mut Bytes,
 ) -> Result<Option<LineRefusal>, NoMemory>
-    ensures { IfOk result (λ refused. IsTurn world.old world.new text.old text.new (replays.event_turn world.old.object (setting_of world.old.plan) world.old.notes event.now) refused) }
+    ensures { IfOk result (λ refused. IsLineOutcome world.old world.new text.old text.new (replays.event_outcome world.old.object (setting_of world.old.plan) world.old.notes event.now) refused) }
 {
     match world.step(alloc, event) {
         Ok(count) => {

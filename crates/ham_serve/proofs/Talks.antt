@@ -19,7 +19,7 @@ use Rattle.ham_journal.specs.declared.entry.Entry.{Entry}
 pub serving_start : (o : Schema) (p : Plan) (m : ℕ) (h : Option (List Entry)) (held out : List ℕ) → Served o p m h h went.On held held out out
 serving_start o p m h held out = record { lines = []; text = []; read = refl; talk = Silent; gathered = sym (append-nil out) }
 
-joined_more : (lines : List (List ℕ)) (line after : List ℕ) → joined lines ++ (line ++ 10 ∷ after) ≡ joined (lines ++ line ∷ []) ++ after
+pub joined_more : (lines : List (List ℕ)) (line after : List ℕ) → joined lines ++ (line ++ 10 ∷ after) ≡ joined (lines ++ line ∷ []) ++ after
 joined_more [] line after = sym (ap (λ (l : List ℕ). l ++ after) (append-nil (line ++ 10 ∷ [])) ∙ append_assoc line (10 ∷ []) after)
 joined_more (l ∷ lines) line after =
     append_assoc (l ++ 10 ∷ []) (joined lines) (line ++ 10 ∷ after)

@@ -3,3 +3,4 @@ pub mod Recorded
 pub mod Texts
 pub mod Talks
 pub mod Rounds
+pub mod Hearing

@@ -3,6 +3,7 @@
 //! It stands on the core's doors and on links. A worker of `ham_workers` calls `serve_client` for each client that comes.
 #![tactic(auto)]
 
+mod hearing;
 pub mod laws;
 mod line;
 mod recorded;

@@ -2,6 +2,7 @@
 
 ghost use Rattle.std.specs.Prelude.{◌≡◌, ◌++◌, OnOk};
 ghost use Rattle.std.specs.List.{flat_map};
+ghost use Rattle.ham_serve.specs.Hearing.{replies_text};
 ghost use Rattle.ham_serve.specs.Texts.{input_by, verdict_by, reply_text, refusal_text, counts_text, count_text, said_text, fault_text};
 
 use crate::recorded::push_recorded;
@@ -58,6 +59,21 @@ pub(crate) fn push_said(text: &mut Bytes, object: &Object, said: Said) -> Result
         Said::Reply(reply) => push_reply(text, object, &reply)?,
     }
     push_line_end(text)
+}
+
+/// Puts the lines of replies last, in order.
+pub(crate) fn push_replies(
+    text: &mut Bytes,
+    object: &Object,
+    replies: &[Reply],
+) -> Result<(), NoMemory>
+    ensures { OnOk result (text.new ≡ text.old ++ replies_text object.now replies.now) }
+{
+    for reply in replies {
+        push_reply(text, object, reply)?;
+        push_line_end(text)?;
+    }
+    Ok(())
 }
 
 fn push_fault(text: &mut Bytes, fault: LineFault) -> Result<(), NoMemory>

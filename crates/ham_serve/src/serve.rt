@@ -1,25 +1,32 @@
 //! Serving a client.
 
-ghost use Rattle.std.specs.Prelude.{◌≡◌, ◌++◌, ◌≤◌, ◌⊎◌, IfOk, IfErr, List, [], ℕ, true, take};
+ghost use Rattle.std.specs.Prelude.{◌≡◌, ◌++◌, ◌≤◌, ◌⊎◌, IfOk, IfErr, List, [], ℕ, length, take, vec_capacity};
+ghost use Rattle.std.specs.List.{AllByRecursion};
+ghost use Rattle.ham_turns.specs.Settings.{setting_of};
+ghost use Rattle.ham_journal.specs.Replies.{MayEnter};
 ghost use Rattle.ham_bytes.specs.Causes.{Rose};
+ghost use Rattle.ham_core.specs.Each.{standing};
 ghost use Rattle.ham_links.specs.Links.{Goes, GoesSome};
 ghost use Rattle.ham_serve.specs.declared.serve.Went.{Went};
 ghost use Rattle.ham_serve.specs.declared.serve.Went.TheVariants as went;
 ghost use Rattle.ham_serve.specs.declared.serve.ClientEnd.TheVariants as ends;
 ghost use Rattle.ham_serve.specs.declared.line.TheConstants.{MAX_LINE};
 ghost use Rattle.ham_serve.specs.Lines.{joined, IsLine, HasNoEnd};
-ghost use Rattle.ham_serve.specs.Texts.{said_text, way_of};
-ghost use Rattle.ham_serve.specs.Talks.{Tells_to, Served, Talk};
+ghost use Rattle.ham_serve.specs.Texts.{way_of};
+ghost use Rattle.ham_serve.specs.Hearing.{Answered, way_after};
+ghost use Rattle.ham_serve.specs.Talks.{Served, Talk};
 ghost use Rattle.ham_serve.specs.Rounds.{Round, Halt, EndsBy, EndOf, Broke};
 
-use crate::line::{MAX_LINE, first_line};
-use crate::reply::{input_of, push_said};
-use ham_core::{Door, Reply};
-use ham_lines::{LineFault, read_client};
+use crate::hearing::{Hearing, hear};
+use crate::line::MAX_LINE;
+use crate::reply::{push_replies, push_said};
+use ham_core::{Door, Input, Reply};
+use ham_lines::LineFault;
 use ham_links::{Got, Link, put_whole};
 use ham_lists::{Bytes, Items, NoMemory};
 use ham_syntax::Object;
 use std::alloc::Global;
+use std::collections::VecDeque;
 use std::sync::Wait;
 
 /// How lines went: on, up to a `quit`, or up to a node that was stopped.
@@ -79,39 +86,67 @@ fn way(reply: &Reply) -> Went
     }
 }
 
-/// Reads a line, and enters what it asks: what is said of it.
-fn told<D: Door>(object: &Object, door: &mut D, line: &[u8]) -> (Said, Went)
+/// How lines go after what was said of one that entered nothing.
+fn way_after_said(said: &Said) -> Went
+    ensures { result ≡ way_after said.now }
+{
+    match said {
+        Said::Fault(_) => Went::On,
+        Said::Bye => Went::Quit,
+        Said::Reply(reply) => way(reply),
+    }
+}
+
+/// Enters what lines ask, by one call of the door, and then puts what is said of them last. How they went.
+fn serve_round<D: Door>(
+    object: &Object,
+    door: &mut D,
+    inputs: VecDeque<Input>,
+    last: Option<Said>,
+    room: Vec<Reply>,
+    out: &mut Bytes,
+) -> Result<Went, NoMemory>
     requires home { D.object door.old ≡ object.now }
-    ensures talk { Tells_to (D.object door.old) (D.plan door.old) (D.me door.old) (D.history door.old) line.now (D.history door.new) (said_text object.now result.0) result.1 }
-    ensures stopped { result.1 ≡ went.Stopped → Rose (D.stops door.old) (D.stops door.new) }
-    ensures later { D.stops door.old ≤ D.stops door.new }
+    requires may { AllByRecursion (MayEnter (setting_of (D.plan door.old)) (D.me door.old)) inputs.items }
+    requires empty { room.items ≡ [] }
+    requires room { length inputs.items ≤ vec_capacity room }
+    ensures ok { IfOk result (λ w. (text : List ℕ) × (out.new ≡ out.old ++ text)
+        × Answered (D.object door.old) (D.plan door.old) (D.me door.old) (standing (D.history door.old) (D.entries door.old) (D.stops door.old) (D.fulls door.old) (D.refusals door.old))
+        (standing (D.history door.new) (D.entries door.new) (D.stops door.new) (D.fulls door.new) (D.refusals door.new)) inputs.items last text w) }
+    ensures err { IfErr result (λ e. (text : List ℕ) × (w : Went)
+        × Answered (D.object door.old) (D.plan door.old) (D.me door.old) (standing (D.history door.old) (D.entries door.old) (D.stops door.old) (D.fulls door.old) (D.refusals door.old))
+        (standing (D.history door.new) (D.entries door.new) (D.stops door.new) (D.fulls door.new) (D.refusals door.new)) inputs.items last text w) }
     ensures object { D.object door.new ≡ D.object door.old }
     ensures plan { D.plan door.new ≡ D.plan door.old }
     ensures me { D.me door.new ≡ D.me door.old }
 {
-    match read_client(object, line) {
-        Err(fault) => (Said::Fault(fault), Went::On),
-        Ok(line) => match input_of(&line) {
-            None => (Said::Bye, Went::Quit),
-            Some(input) => {
-                let reply = door.enter(input);
-                let went = way(&reply);
-                (Said::Reply(reply), went)
-            }
-        },
+    let mut inputs = inputs;
+    let mut replies = room;
+    let stopped = door.enter_all(&mut inputs, &mut replies);
+    push_replies(out, object, &replies)?;
+    if stopped {
+        return Ok(Went::Stopped);
     }
+    let Some(said) = last else {
+        return Ok(Went::On);
+    };
+    let went = way_after_said(&said);
+    push_said(out, object, said)?;
+    Ok(went)
 }
 
-/// Serves each whole line of what is held, up to the last, and gathers the replies. What is left.
+/// Serves each whole line of what is held, up to the last, and gathers the replies: what is left where they went on. The lines
+/// of a round are read before the first of them is entered, and their replies are spelled after the last.
 #[tactic(auto, using(crate::proofs::Talks::serving_start))]
 fn serve_lines<'a, D: Door>(
+    alloc: Global,
     object: &Object,
     door: &mut D,
     held: &'a [u8],
     out: &mut Bytes,
 ) -> Result<(&'a [u8], Went), NoMemory>
     requires home { D.object door.old ≡ object.now }
-    ensures talk { IfOk result (λ r. Served (D.object door.old) (D.plan door.old) (D.me door.old) (D.history door.old) (D.history door.new) r.1 held.entry.now r.0.now out.old out.new) }
+    ensures talk { IfOk result (λ r. (rest : List ℕ) × Served (D.object door.old) (D.plan door.old) (D.me door.old) (D.history door.old) (D.history door.new) r.1 held.entry.now rest out.old out.new × (r.1 ≡ went.On → rest ≡ r.0.now)) }
     ensures no_end { IfOk result (λ r. r.1 ≡ went.On → HasNoEnd (take MAX_LINE r.0.now)) }
     ensures untold { IfErr result (λ e. (rest : List ℕ) × (all : List ℕ) × (w : Went) × Served (D.object door.old) (D.plan door.old) (D.me door.old) (D.history door.old) (D.history door.new) w held.entry.now rest [] all) }
     ensures stopped { IfOk result (λ r. r.1 ≡ went.Stopped → Rose (D.stops door.old) (D.stops door.new)) }
@@ -121,15 +156,23 @@ fn serve_lines<'a, D: Door>(
     ensures me { D.me door.new ≡ D.me door.old }
 {
     let mut rest = held;
-    while let Some((line, after)) = first_line(rest) {
-        let (said, went) = told(object, door, line);
-        push_said(out, object, said)?;
+    loop {
+        let Hearing {
+            inputs,
+            last,
+            rest: after,
+            done,
+        } = hear(alloc, object, rest)?;
+        let room = Vec::with_capacity(alloc, inputs.len())?;
+        let went = serve_round(object, door, inputs, last, room, out)?;
         rest = after;
         if went != Went::On {
             return Ok((rest, went));
         }
+        if done {
+            return Ok((rest, went));
+        }
     }
-    Ok((rest, Went::On))
 }
 
 /// Serves the lines that the held bytes have, and puts what is told of them. What is held afterwards.
@@ -141,8 +184,8 @@ fn answer<D: Door, K: Link>(
     held: &[u8],
 ) -> Result<(Vec<u8>, Went), ClientEnd>
     requires home { D.object door.old ≡ object.now }
-    ensures served { IfOk result (λ r. (lines : List (List ℕ)) × (text : List ℕ) × Talk (D.object door.old) (D.plan door.old) (D.me door.old) (D.history door.old) lines (D.history door.new) text r.1
-        × (held.now ≡ joined lines ++ r.0.items) × Goes (K.sent link.old) (K.sent link.new) text) }
+    ensures served { IfOk result (λ r. (lines : List (List ℕ)) × (text : List ℕ) × (rest : List ℕ) × Talk (D.object door.old) (D.plan door.old) (D.me door.old) (D.history door.old) lines (D.history door.new) text r.1
+        × (held.now ≡ joined lines ++ rest) × (r.1 ≡ went.On → rest ≡ r.0.items) × Goes (K.sent link.old) (K.sent link.new) text) }
     ensures no_end { IfOk result (λ r. r.1 ≡ went.On → HasNoEnd (take MAX_LINE r.0.items)) }
     ensures broken { IfErr result (λ e. (lines : List (List ℕ)) × (text : List ℕ) × (rest : List ℕ) × (w : Went) × Talk (D.object door.old) (D.plan door.old) (D.me door.old) (D.history door.old) lines (D.history door.new) text w
         × (held.now ≡ joined lines ++ rest) × GoesSome (K.sent link.old) (K.sent link.new) text) }
@@ -157,7 +200,7 @@ fn answer<D: Door, K: Link>(
     ensures me { D.me door.new ≡ D.me door.old }
 {
     let mut out = Items::new(alloc);
-    let Ok((rest, went)) = serve_lines(object, door, held, &mut out) else {
+    let Ok((rest, went)) = serve_lines(alloc, object, door, held, &mut out) else {
         return Err(ClientEnd::NoMemory);
     };
     let Ok(kept) = Vec::from_slice(alloc, rest) else {

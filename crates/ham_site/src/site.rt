@@ -66,7 +66,7 @@ impl Site {
         let methods = method_plans(alloc, plan)?;
         let deciders = deciders(alloc, plan)?;
         Ok(Site {
-            object: object.copy(alloc)?,
+            object: object.copy()?,
             plan: *plan,
             me,
             methods,

@@ -1,6 +1,7 @@
 -- How many rows stand at a key after one step more.
 use Rattle.std.proofs.Common.{◌≡◌, ℕ, zero, suc, ◌+◌, ◌<◌, ◌≤◌, Bool, true, false, not, ◌&&◌, ◌||◌, List, [], ◌∷◌, refl, sym, ap, ◌∙◌, subst, arith, length, map, take, get_or, add-one}
 use Rattle.std.specs.Prelude.{ℤ, ◌+ℤ◌, int_le, ◌==◌, if◌then◌else◌}
+use Rattle.std.specs.List.{AllByRecursion}
 use Rattle.std.proofs.lemmas.Bool.{and_parts, eqb-true}
 use Rattle.ham_syntax.specs.declared.term.Term.{Term}
 use Rattle.ham_syntax.specs.declared.term.Term.TheVariants.{Const}
@@ -141,3 +142,10 @@ unchanged s st c j by r columns k n is f = (f ∙ sym (tally-change s c j by r c
 
 pub one_more : (net : List Step) (s : State) (i : ℕ) (st : Step) (r : ℕ) (columns k : List ℕ) (n : ℕ) → i < length net → st ≡ get_or net i st → n ≡ tally (after_step st (after_steps (take i net) s)) r columns k → n ≡ tally (after_steps (take (i + 1) net) s) r columns k
 one_more net s i st r columns k n l is e = e ∙ ap (λ u. tally (after_step u (after_steps (take i net) s)) r columns k) is ∙ ap (λ u. tally u r columns k) (after-take net s i st l) ∙ rw (add-one i) refl
+
+-- ---- the first of the steps
+pub all_of_first : (P : Step → Type 0) (net : List Step) (n : ℕ) → AllByRecursion P net → AllByRecursion P (take n net)
+all_of_first P [] zero all = tt
+all_of_first P [] (suc n) all = tt
+all_of_first P (st ∷ net) zero all = tt
+all_of_first P (st ∷ net) (suc n) all = (all.0, all_of_first P net n all.1)

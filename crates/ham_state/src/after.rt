@@ -1,6 +1,6 @@
 //! How many rows stand at a key after steps.
 
-ghost use Rattle.std.specs.Prelude.{◌≡◌, ℕ, ◌+◌, ◌^◌, ◌<◌, ◌≤◌, not, ◌&&◌, true, false, ◌-◌, ◌==◌, if◌then◌else◌, length, MatchOption};
+ghost use Rattle.std.specs.Prelude.{◌≡◌, ℕ, ◌+◌, ◌^◌, ◌<◌, ◌≤◌, not, ◌&&◌, true, false, ◌-◌, ◌==◌, if◌then◌else◌, MatchOption};
 ghost use Rattle.ham_steps.specs.Content as contents;
 ghost use Rattle.ham_steps.specs.Steps.{after_step, after_steps};
 ghost use Rattle.ham_content.specs.Numbers.{same};
@@ -13,7 +13,6 @@ use ham_content::columns::project;
 use ham_content::tally::count_at;
 use ham_steps::{Row, Step, constants};
 use ham_syntax::Cols;
-use ham_syntax::limits::MAX_PARTS;
 use std::collections::HashMap;
 
 /// Whether a row of this relation counts at the key.
@@ -96,7 +95,6 @@ pub fn tally_after(
     key: &Row,
 ) -> Option<u64>
     requires tallied { count tallies.now key.now ≡ tally (content ahead.now.facts.now ahead.now.amounts.now) relation columns.now key.now }
-    requires few { length ahead.now.steps.now ≤ MAX_PARTS }
     ensures { MatchOption result (Unit {0}) (λ n. n ≡ tally (after_steps ahead.now.steps.now (content ahead.now.facts.now ahead.now.amounts.now)) relation columns.now key.now) }
 {
     // So few that a number fits.
@@ -104,12 +102,7 @@ pub fn tally_after(
     let steps = ahead.steps;
     let mut number = count_at(tallies, key);
     for (i, step) in steps.iter().enumerate() {
-        let earlier = Ahead {
-            facts: ahead.facts,
-            amounts: ahead.amounts,
-            sieves: ahead.sieves,
-            steps: &steps[..i],
-        };
+        let earlier = ahead.first(i);
         number = tally_then(&earlier, step, relation, columns, key, number)?;
     }
     Some(number)

@@ -1,7 +1,6 @@
 //! Limits of counters after steps.
 
-ghost use Rattle.std.specs.Prelude.{◌≡◌, ◌^◌, ◌≤◌, ◌+ℤ◌, int_le, nat_abs, length};
-ghost use Rattle.std.specs.List.{AllByRecursion};
+ghost use Rattle.std.specs.Prelude.{◌≡◌, ◌^◌, ◌≤◌, ◌+ℤ◌, int_le, nat_abs};
 ghost use Rattle.ham_syntax.specs.declared.object.Invariant.TheVariants as invariants;
 ghost use Rattle.ham_steps.specs.Steps.{IsWithin};
 ghost use Rattle.ham_steps.specs.Touch as touch;
@@ -11,7 +10,6 @@ ghost use Rattle.ham_state.specs.Ahead.{is_sound_after};
 use crate::ahead::Ahead;
 use ham_content::tables::value;
 use ham_steps::{Row, Step};
-use ham_syntax::limits::MAX_PARTS;
 
 fn gain(step: &Step, counter: u8, key: u64) -> i128
     requires { IsWithin (2 ^ 32) step.now }
@@ -30,14 +28,12 @@ fn gain(step: &Step, counter: u8, key: u64) -> i128
 }
 
 /// What the steps together add to the counter at the key.
-fn gains(steps: &[Step], counter: u8, key: u64) -> i128
-    requires few { length steps.now ≤ MAX_PARTS }
-    requires small { AllByRecursion (IsWithin (2 ^ 32)) steps.now }
-    ensures sum { result ≡ touch.gains steps.now counter key }
+fn gains(ahead: &Ahead, counter: u8, key: u64) -> i128
+    ensures sum { result ≡ touch.gains ahead.now.steps.now counter key }
     ensures small { nat_abs result ≤ 2 ^ 35 }
 {
     let mut sum = 0;
-    for step in steps {
+    for step in ahead.steps {
         sum += gain(step, counter, key);
     }
     sum
@@ -61,8 +57,6 @@ fn is_at_most(limit: i64, number: i128, gain: i128) -> bool
 
 /// Whether the counter is at least the limit at the spot after the steps.
 pub fn is_low_sound(ahead: &Ahead, counter: u8, limit: i64, spot: &Row) -> bool
-    requires few { length ahead.now.steps.now ≤ MAX_PARTS }
-    requires small { AllByRecursion (IsWithin (2 ^ 32)) ahead.now.steps.now }
     ensures { result ≡ is_sound_after (content ahead.now.facts.now ahead.now.amounts.now) (invariants.Low counter limit) ahead.now.steps.now spot.now }
 {
     let ids = spot.items();
@@ -73,14 +67,12 @@ pub fn is_low_sound(ahead: &Ahead, counter: u8, limit: i64, spot: &Row) -> bool
     is_at_least(
         limit,
         value(ahead.facts, ahead.amounts, counter, key),
-        gains(ahead.steps, counter, key),
+        gains(ahead, counter, key),
     )
 }
 
 /// Whether the counter is at most the limit at the spot after the steps.
 pub fn is_high_sound(ahead: &Ahead, counter: u8, limit: i64, spot: &Row) -> bool
-    requires few { length ahead.now.steps.now ≤ MAX_PARTS }
-    requires small { AllByRecursion (IsWithin (2 ^ 32)) ahead.now.steps.now }
     ensures { result ≡ is_sound_after (content ahead.now.facts.now ahead.now.amounts.now) (invariants.High counter limit) ahead.now.steps.now spot.now }
 {
     let ids = spot.items();
@@ -91,6 +83,6 @@ pub fn is_high_sound(ahead: &Ahead, counter: u8, limit: i64, spot: &Row) -> bool
     is_at_most(
         limit,
         value(ahead.facts, ahead.amounts, counter, key),
-        gains(ahead.steps, counter, key),
+        gains(ahead, counter, key),
     )
 }

@@ -5,7 +5,6 @@ ghost use Rattle.std.specs.List.{list_all};
 ghost use Rattle.ham_steps.specs.Content.{rows};
 ghost use Rattle.ham_steps.specs.Steps.{after_steps};
 ghost use Rattle.ham_content.specs.Kept.{content};
-ghost use Rattle.ham_content.specs.Seats.{AreSieves};
 ghost use Rattle.ham_state.specs.Ahead.{is_elsewhere, unless_gone, put_passes};
 
 use crate::ahead::{Ahead, is_there};
@@ -71,7 +70,6 @@ fn are_same(columns: &Cols, others: &Cols) -> bool
 
 /// Of rows that are kept in the relation. Those at the key are looked at where a sieve has these columns; elsewhere all.
 fn kept_pass<T: RowTest>(test: &T, ahead: &Ahead, relation: u8, columns: &Cols, key: &Row) -> bool
-    requires sieves { AreSieves (content ahead.now.facts.now ahead.now.amounts.now) ahead.now.sieves.now }
     requires can { T.can_pass test.now }
     requires elsewhere { (x : List ℕ) → is_elsewhere columns.now key.now x ≡ true → T.test test.now x ≡ true }
     ensures { result ≡ list_all (λ f. not (f.relation == relation) || unless_gone (content ahead.now.facts.now ahead.now.amounts.now) ahead.now.steps.now relation (T.test test.now) f.row) ahead.now.facts.now.keys }
@@ -123,7 +121,6 @@ pub fn each_passes<T: RowTest>(
     columns: &Cols,
     key: &Row,
 ) -> bool
-    requires sieves { AreSieves (content ahead.now.facts.now ahead.now.amounts.now) ahead.now.sieves.now }
     requires can { T.can_pass test.now }
     requires elsewhere { (x : List ℕ) → is_elsewhere columns.now key.now x ≡ true → T.test test.now x ≡ true }
     ensures { result ≡ list_all (T.test test.now) (rows (after_steps ahead.now.steps.now (content ahead.now.facts.now ahead.now.amounts.now)) relation) }

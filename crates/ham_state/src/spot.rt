@@ -1,6 +1,6 @@
 //! One spot of a reference or of a uniqueness after steps.
 
-ghost use Rattle.std.specs.Prelude.{◌≡◌, ◌≤◌, not, nat_lt, length};
+ghost use Rattle.std.specs.Prelude.{◌≡◌, not, nat_lt};
 ghost use Rattle.ham_syntax.specs.declared.object.Invariant.TheVariants as invariants;
 ghost use Rattle.ham_steps.specs.Content as contents;
 ghost use Rattle.ham_steps.specs.Steps.{after_steps};
@@ -8,14 +8,12 @@ ghost use Rattle.ham_content.specs.Tallies.{count};
 ghost use Rattle.ham_content.specs.Kept.{content};
 ghost use Rattle.ham_content.specs.Counted.{tally};
 ghost use Rattle.ham_state.specs.Ahead.{is_sound_after};
-ghost use Rattle.ham_content.specs.Seats.{AreSieves};
 
 use crate::after::tally_after;
 use crate::ahead::{Ahead, is_there};
 use crate::scan::{at_most_one_stands, none_stands};
 use ham_steps::Row;
 use ham_syntax::Cols;
-use ham_syntax::limits::MAX_PARTS;
 use std::collections::HashMap;
 
 /// Whether no row stands at the key after the steps.
@@ -27,8 +25,6 @@ fn is_empty_after(
     key: &Row,
 ) -> bool
     requires tallied { count tallies.now key.now ≡ tally (content ahead.now.facts.now ahead.now.amounts.now) relation columns.now key.now }
-    requires sieves { AreSieves (content ahead.now.facts.now ahead.now.amounts.now) ahead.now.sieves.now }
-    requires few { length ahead.now.steps.now ≤ MAX_PARTS }
     ensures { result ≡ not (nat_lt 0 (tally (after_steps ahead.now.steps.now (content ahead.now.facts.now ahead.now.amounts.now)) relation columns.now key.now)) }
 {
     match tally_after(ahead, tallies, relation, columns, key) {
@@ -47,8 +43,6 @@ pub fn is_reference_sound(
     spot: &Row,
 ) -> bool
     requires tallied { count tallies.now spot.now ≡ tally (content ahead.now.facts.now ahead.now.amounts.now) from columns.now spot.now }
-    requires sieves { AreSieves (content ahead.now.facts.now ahead.now.amounts.now) ahead.now.sieves.now }
-    requires few { length ahead.now.steps.now ≤ MAX_PARTS }
     ensures { result ≡ is_sound_after (content ahead.now.facts.now ahead.now.amounts.now) (invariants.Reference from columns.now to) ahead.now.steps.now spot.now }
 {
     is_there(ahead, to, spot) || is_empty_after(ahead, tallies, from, columns, spot)
@@ -63,8 +57,6 @@ pub fn is_unique_sound(
     spot: &Row,
 ) -> bool
     requires tallied { count tallies.now spot.now ≡ tally (content ahead.now.facts.now ahead.now.amounts.now) relation columns.now spot.now }
-    requires sieves { AreSieves (content ahead.now.facts.now ahead.now.amounts.now) ahead.now.sieves.now }
-    requires few { length ahead.now.steps.now ≤ MAX_PARTS }
     ensures { result ≡ is_sound_after (content ahead.now.facts.now ahead.now.amounts.now) (invariants.Unique relation columns.now) ahead.now.steps.now spot.now }
 {
     match tally_after(ahead, tallies, relation, columns, spot) {

@@ -43,11 +43,11 @@ pub conflict_symmetric : (o : Schema) (m n : ℕ) → IsChecked o → conflict_o
 unfolding conflict_of
 conflict_symmetric o m n checked = ap not (exchanged (is_derivable o (Sc m n)) (is_derivable o (Sc n m)) (stays o m n) (stays o n m) (computed_turned o m n checked))
 
-pub among_symmetric : (o : Schema) → IsChecked o → (methods : ℕ) (rows : List (List Bool)) → ((m n : ℕ) → m < methods → n < methods → cell rows m n ≡ conflict_of o m n) → (m n : ℕ) → among methods rows m n ≡ among methods rows n m
-among_symmetric o checked methods rows is m n = by (ltb m methods) (ltb n methods) refl refl
+pub among_symmetric : (o : Schema) → ((m n : ℕ) → conflict_of o m n ≡ conflict_of o n m) → (methods : ℕ) (rows : List (List Bool)) → ((m n : ℕ) → m < methods → n < methods → cell rows m n ≡ conflict_of o m n) → (m n : ℕ) → among methods rows m n ≡ among methods rows n m
+among_symmetric o turned methods rows is m n = by (ltb m methods) (ltb n methods) refl refl
   where
     by : (a b : Bool) → ltb m methods ≡ a → ltb n methods ≡ b → ((a && b) && cell rows m n) ≡ ((b && a) && cell rows n m)
-    by true true x y = is m n (ltb-true m methods x) (ltb-true n methods y) ∙ (conflict_symmetric o m n checked ∙ sym (is n m (ltb-true n methods y) (ltb-true m methods x)))
+    by true true x y = is m n (ltb-true m methods x) (ltb-true n methods y) ∙ (turned m n ∙ sym (is n m (ltb-true n methods y) (ltb-true m methods x)))
     by true false x y = refl
     by false true x y = refl
     by false false x y = refl

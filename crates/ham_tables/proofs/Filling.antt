@@ -1,6 +1,7 @@
 -- A row of a table that is filled, one cell after another.
-use Rattle.std.proofs.Common.{◌≡◌, ◌≢◌, ℕ, ◌+◌, ◌<◌, ◌≤◌, Bool, true, false, ◌&&◌, ◌||◌, eqb, List, refl, sym, subst, ◌∙◌, arith}
+use Rattle.std.proofs.Common.{◌≡◌, ◌≢◌, ℕ, ◌+◌, ◌<◌, ◌≤◌, Bool, true, false, ◌&&◌, ◌||◌, eqb, List, length, get_or, set, refl, sym, subst, ◌∙◌, arith}
 use Rattle.std.proofs.lemmas.Bool.{eqb-true, eqb-false}
+use Rattle.std.proofs.lemmas.List.{get_or-set_same, get_or-set_other}
 use Rattle.ham_plan.specs.Grids.{cell}
 
 -- cells of row m up to n hold the test, those after it nothing, and other rows what they held
@@ -69,3 +70,11 @@ AreFilled-more test methods m rows new are row others = record {
     done : (p q : ℕ) → p < m + 1 → q < methods → (t : Bool) → eqb p m ≡ t → cell new p q ≡ test p q
     done p q h k true e = let same = eqb-true p m e in rw same (row q k)
     done p q h k false e = let other = eqb-false p m e in others p q other ∙ are.done p q (omega arith) k
+
+-- ---- the first m of a list are answers of the test, and one more is set
+pub known_more : (test : ℕ → Bool) (each : List Bool) (m : ℕ) (b : Bool) → m < length each → ((q : ℕ) → q < m → get_or each q false ≡ test q) → b ≡ test m → (q : ℕ) → q < m + 1 → get_or (set each m b) q false ≡ test q
+known_more test each m b long before is q h = by (eqb q m) refl
+  where
+    by : (same : Bool) → eqb q m ≡ same → get_or (set each m b) q false ≡ test q
+    by true e = rw (eqb-true q m e) (get_or-set_same each m b false long ∙ is)
+    by false e = let other = eqb-false q m e in get_or-set_other each m q b false other ∙ before q (omega arith)

@@ -1,6 +1,6 @@
 //! The plan of an object: its conflicts and dependencies are what the rules don't derive away.
 
-ghost use Rattle.std.specs.Prelude.{◌≡◌, ◌≢◌, ℕ, ◌<◌, ◌≤◌, false, length};
+ghost use Rattle.std.specs.Prelude.{◌≡◌, ◌≢◌, ℕ, ◌<◌, ◌≤◌, false};
 ghost use Rattle.ham_syntax.specs.Checked.{IsChecked};
 ghost use Rattle.ham_syntax.specs.Objects.{Schema};
 ghost use Rattle.ham_meaning.specs.OfObjects.{meaning};
@@ -9,86 +9,71 @@ ghost use Rattle.ham_laws.specs.Constrained.{constraints_of};
 ghost use Rattle.ham_plan.specs.Grids.{cell};
 ghost use Rattle.ham_tables.specs.DerivedPlans as derived_plans;
 
+use crate::deriver::Deriver;
 use ham_plan::{Grid, Plan};
-use ham_rules::{Claim, derivable};
 use ham_syntax::Object;
 use ham_syntax::limits::{MAX_METHODS, MAX_REPLICAS};
 use std::marker::Model;
 
-fn stays(object: &Object, m: u8, n: u8) -> bool
-    ensures { result ≡ derived_plans.stays object.now m n }
+/// Whether the methods conflict. Conflict is symmetric: where the row of n comes before that of m, it is read there.
+fn conflict_at(grid: &Grid<MAX_METHODS>, deriver: &Deriver, m: u8, n: u8) -> bool
+    requires m_exists { m < deriver.now.methods }
+    requires n_exists { n < deriver.now.methods }
+    requires above { n < m → cell grid.now.at n m ≡ derived_plans.conflict_of deriver.now.object.now n m }
+    ensures { result ≡ derived_plans.conflict_of deriver.now.object.now m n }
 {
-    derivable(object, &Claim::Is { m }) || derivable(object, &Claim::Pr { m, n })
-}
-
-fn concur(object: &Object, m: u8, n: u8) -> bool
-    ensures { result ≡ derived_plans.concur object.now m n }
-{
-    derivable(object, &Claim::Sc { m, n }) && stays(object, m, n) && stays(object, n, m)
-}
-
-#[tactic(auto, unfolding(crate::specs::DerivedPlans::conflict_of))]
-fn conflict(object: &Object, m: u8, n: u8) -> bool
-    ensures { result ≡ derived_plans.conflict_of object.now m n }
-{
-    !concur(object, m, n)
-}
-
-#[tactic(auto, unfolding(crate::specs::DerivedPlans::depends_of))]
-fn depends(object: &Object, m: u8, n: u8) -> bool
-    ensures { result ≡ derived_plans.depends_of object.now m n }
-{
-    !(derivable(object, &Claim::Is { m }) || derivable(object, &Claim::Pl { m, n }))
+    if n < m {
+        grid.get(usize::from(n), usize::from(m))
+    } else {
+        deriver.conflict(m, n)
+    }
 }
 
 /// Fills row m with the conflicts of method m.
-fn fill_conflicts(grid: &mut Grid<MAX_METHODS>, object: &Object, methods: u8, m: u8)
-    requires within { m < methods }
-    requires few { methods ≤ MAX_METHODS }
+fn fill_conflicts(grid: &mut Grid<MAX_METHODS>, deriver: &Deriver, m: u8)
+    requires within { m < deriver.now.methods }
+    requires above { (q : ℕ) → q < m → cell grid.old.at q m ≡ derived_plans.conflict_of deriver.now.object.now q m }
     requires fresh { (q : ℕ) → cell grid.old.at m q ≡ false }
-    ensures row { (q : ℕ) → q < methods → cell grid.new.at m q ≡ derived_plans.conflict_of object.now m q }
+    ensures row { (q : ℕ) → q < deriver.now.methods → cell grid.new.at m q ≡ derived_plans.conflict_of deriver.now.object.now m q }
     ensures others { (p q : ℕ) → p ≢ m → cell grid.new.at p q ≡ cell grid.old.at p q }
 {
-    for n in 0..methods {
-        if conflict(object, m, n) {
+    for n in 0..deriver.methods {
+        if conflict_at(grid, deriver, m, n) {
             grid.set(usize::from(m), usize::from(n));
         }
     }
 }
 
 /// Fills row m with what method m depends on.
-fn fill_depends(grid: &mut Grid<MAX_METHODS>, object: &Object, methods: u8, m: u8)
-    requires within { m < methods }
-    requires few { methods ≤ MAX_METHODS }
+fn fill_depends(grid: &mut Grid<MAX_METHODS>, deriver: &Deriver, m: u8)
+    requires within { m < deriver.now.methods }
     requires fresh { (q : ℕ) → cell grid.old.at m q ≡ false }
-    ensures row { (q : ℕ) → q < methods → cell grid.new.at m q ≡ derived_plans.depends_of object.now m q }
+    ensures row { (q : ℕ) → q < deriver.now.methods → cell grid.new.at m q ≡ derived_plans.depends_of deriver.now.object.now m q }
     ensures others { (p q : ℕ) → p ≢ m → cell grid.new.at p q ≡ cell grid.old.at p q }
 {
-    for n in 0..methods {
-        if depends(object, m, n) {
+    for n in 0..deriver.methods {
+        if deriver.depends(m, n) {
             grid.set(usize::from(m), usize::from(n));
         }
     }
 }
 
-fn conflicts(object: &Object, methods: u8) -> Grid<MAX_METHODS>
-    requires { methods ≤ MAX_METHODS }
-    ensures { (m n : ℕ) → m < methods → n < methods → cell result.at m n ≡ derived_plans.conflict_of object.now m n }
+fn conflicts(deriver: &Deriver) -> Grid<MAX_METHODS>
+    ensures { (m n : ℕ) → m < deriver.now.methods → n < deriver.now.methods → cell result.at m n ≡ derived_plans.conflict_of deriver.now.object.now m n }
 {
     let mut grid = Grid::new();
-    for m in 0..methods {
-        fill_conflicts(&mut grid, object, methods, m);
+    for m in 0..deriver.methods {
+        fill_conflicts(&mut grid, deriver, m);
     }
     grid
 }
 
-fn dependencies(object: &Object, methods: u8) -> Grid<MAX_METHODS>
-    requires { methods ≤ MAX_METHODS }
-    ensures { (m n : ℕ) → m < methods → n < methods → cell result.at m n ≡ derived_plans.depends_of object.now m n }
+fn dependencies(deriver: &Deriver) -> Grid<MAX_METHODS>
+    ensures { (m n : ℕ) → m < deriver.now.methods → n < deriver.now.methods → cell result.at m n ≡ derived_plans.depends_of deriver.now.object.now m n }
 {
     let mut grid = Grid::new();
-    for m in 0..methods {
-        fill_depends(&mut grid, object, methods, m);
+    for m in 0..deriver.methods {
+        fill_depends(&mut grid, deriver, m);
     }
     grid
 }
@@ -118,11 +103,11 @@ impl Derived {
     pub fn of(object: &Object) -> Derived
         ensures { derived_plans.IsDerived object.now result }
     {
-        let methods = object.methods().len() as u8;
+        let deriver = Deriver::of(object);
         Derived {
-            methods,
-            conflict: conflicts(object, methods),
-            depends: dependencies(object, methods),
+            methods: deriver.methods,
+            conflict: conflicts(&deriver),
+            depends: dependencies(&deriver),
         }
     }
 

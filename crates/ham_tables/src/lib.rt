@@ -5,6 +5,7 @@
 #![tactic(auto)]
 
 pub mod derived;
+mod deriver;
 pub mod laws;
 mod lines;
 pub mod tables;

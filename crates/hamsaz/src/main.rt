@@ -13,7 +13,7 @@ use std::process::ExitCode;
 use std::rt::Env;
 use std::{env, io};
 
-/// The words after the program's name; none where they can't be read as text.
+/// The words after the program's name; none where they can't be read as text, since no command has such a word.
 fn words_of(rt: &(impl Env + Alloc), alloc: Global) -> Result<Words, Exit> {
     let mut words = Words::new(alloc);
     let all = match env::args(rt) {

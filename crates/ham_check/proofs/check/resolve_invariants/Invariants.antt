@@ -7,4 +7,4 @@ use Rattle.ham_check.proofs.Walked.{IsWalked}
 use Rattle.ham_check.proofs.check.resolve_invariants.Given as goal
 
 abbrev pub invariant-loop-i : goal.invariant-loop-i
-invariant-loop-i l = record { few : l.i ≤ 32; typed : AllByRecursion IsTypedInvariant l.invariants; walked : IsWalked (invariant_faults l.fn.relations l.fn.counters) (resolved_invariant l.fn.relations l.fn.counters) l.raw l.i l.invariants }
+invariant-loop-i l = record { few : l.i ≤ 32; typed : AllByRecursion IsTypedInvariant l.invariants; walked : IsWalked (invariant_faults l.fn.declared.relations.now l.fn.declared.counters.now) (resolved_invariant l.fn.declared.relations.now l.fn.declared.counters.now) l.raw l.i l.invariants }

@@ -10,7 +10,7 @@ loop-rest-init g c = record { playing = begins _ _ _ _; going = c.requires.going
 
 pub loop-rest-preserved : goal.loop-rest-preserved
 loop-rest-preserved g c =
-    let is = turned _ _ _ _ _ _ _ c.truncate.ensures c.in-None.is c.in_ok-turn.ensures in
+    let is = turned _ _ _ _ _ _ _ c.truncate.ensures c.in-None.is c.in_ok-play_line.ensures in
     let next = next_answered c.loop-rest.number _ _ _ _ _ _ c.first_line.ensures.lines is in
     let put = rw c.items.ensures at c.in_ok-write-in-None.ensures.ok in
     record {
@@ -19,28 +19,28 @@ loop-rest-preserved g c =
       few = omega (arith, c.first_line.ensures.shorter, c.loop-rest.invariant.few);
     }
 
-pub returns-in_err-turn-clause-text : goal.returns-in_err-turn-clause-text
-returns-in_err-turn-clause-text g c =
+pub returns-in_err-play_line-clause-text : goal.returns-in_err-play_line-clause-text
+returns-in_err-play_line-clause-text g c =
     let p = err_from_is_err_and c.from_residual.result c.from_residual.ensures.1 in
     rw p.1 (stops _ _ _ _ _ _ _ _ c.loop-rest.invariant.playing)
 
 pub returns-in_err-write-in-None-clause-text : goal.returns-in_err-write-in-None-clause-text
 returns-in_err-write-in-None-clause-text g c =
     let p = err_from_is_err_and c.from_residual-in_err-write-in-None.result c.from_residual-in_err-write-in-None.ensures.1 in
-    let is = turned _ _ _ _ _ _ _ c.truncate.ensures c.in-None.is c.in_ok-turn.ensures in
+    let is = turned _ _ _ _ _ _ _ c.truncate.ensures c.in-None.is c.in_ok-play_line.ensures in
     let next = next_answered c.loop-rest.number _ _ _ _ _ _ c.first_line.ensures.lines is in
     let put = rw c.items.ensures at c.in_err-write-in-None.ensures.front in
     rw p.1 (stops_in _ _ _ _ _ _ _ _ _ _ _ c.loop-rest.invariant.playing next put)
 
 pub returns-in-Some-clause-end : goal.returns-in-Some-clause-end
 returns-in-Some-clause-end g c =
-    let is = turned _ _ _ _ _ _ _ c.truncate.ensures c.in-Some.is c.in_ok-turn.ensures in
+    let is = turned _ _ _ _ _ _ _ c.truncate.ensures c.in-Some.is c.in_ok-play_line.ensures in
     let next = next_refused c.loop-rest.number _ _ _ _ _ _ _ c.first_line.ensures.lines is in
     rw (c.loop-rest.invariant.playing.refused ∙ ap (λ (p : Played). p.refused) next) c.refuse.ensures.end
 
 pub returns-in-Some-clause-text : goal.returns-in-Some-clause-text
 returns-in-Some-clause-text g c =
-    let is = turned _ _ _ _ _ _ _ c.truncate.ensures c.in-Some.is c.in_ok-turn.ensures in
+    let is = turned _ _ _ _ _ _ _ c.truncate.ensures c.in-Some.is c.in_ok-play_line.ensures in
     let next = next_refused c.loop-rest.number _ _ _ _ _ _ _ c.first_line.ensures.lines is in
     finish _ _ _ _ _ _ _ _ _ _ _ _ c.loop-rest.invariant.playing (ap (λ (p : Played). p.text) next) c.refuse.ensures.text
 

@@ -3,8 +3,8 @@ use Rattle.ham_serve.specs.Talks.{Served}
 use Rattle.ham_serve.specs.declared.serve.Went.TheVariants as went
 use Rattle.ham_serve.proofs.serve.serve_lines.Given as goal
 
-abbrev pub invariant-loop-line : goal.invariant-loop-line
-invariant-loop-line g l =
+abbrev pub invariant-loop-inputs : goal.invariant-loop-inputs
+invariant-loop-inputs g l =
     record {
       served : Served (g.D.Door.object l.initial.door) (g.D.Door.plan l.initial.door) (g.D.Door.me l.initial.door) (g.D.Door.history l.initial.door) (g.D.Door.history l.door) went.On
           l.held l.rest l.initial.out l.out;
@@ -14,5 +14,5 @@ invariant-loop-line g l =
       me : g.D.Door.me l.door ≡ g.D.Door.me l.initial.door;
     }
 
-abbrev pub decreases-loop-line : goal.decreases-loop-line
-decreases-loop-line g l = length l.rest
+abbrev pub decreases-loop-inputs : goal.decreases-loop-inputs
+decreases-loop-inputs g l = length l.rest

@@ -14,8 +14,8 @@ returns-clause-on g c =
     let s = c.in-Ok.ensures.served in (
       s.0,
       s.1,
-      subst (λ (w : Went). Talk (g.D.Door.object c.args.door.now) (g.D.Door.plan c.args.door.now) (g.D.Door.me c.args.door.now) (g.D.Door.history c.args.door.now) s.0 (g.D.Door.history c.answer.new.door) s.1 w) c.in-On.is s.2,
-      grind (arith, c.extend_from_slice.ensures.items, c.is_err.ensures.value, c.if-is_err.false, c.deref.ensures.value, s.3),
-      s.4,
+      subst (λ (w : Went). Talk (g.D.Door.object c.args.door.now) (g.D.Door.plan c.args.door.now) (g.D.Door.me c.args.door.now) (g.D.Door.history c.args.door.now) s.0 (g.D.Door.history c.answer.new.door) s.1 w) c.in-On.is s.3,
+      grind (arith, c.extend_from_slice.ensures.items, c.is_err.ensures.value, c.if-is_err.false, c.deref.ensures.value, s.4, s.5 c.in-On.is),
+      s.6,
       held_line _ (c.in-Ok.ensures.no_end c.in-On.is) (omega (arith, c.if-len-ge-MAX_LINE.false, c.len.ensures)),
     )

@@ -7,7 +7,7 @@ use Rattle.ham_state.proofs.Sieved.{none_by, kept_by_sieve}
 use Rattle.ham_state.proofs.rows_after.kept_pass.Goals as goal
 
 pub failing_at-requires-clause-sieve : goal.failing_at-requires-clause-sieve
-failing_at-requires-clause-sieve g c = c.requires.sieves c.loop-sieve.sieve-index c.sieve-item.result (slice_get_read c.args.ahead.now.sieves.now (length c.args.ahead.now.sieves.now) c.loop-sieve.sieve-index c.sieve-item.result refl c.loop-sieve-test.true c.sieve-item.is)
+failing_at-requires-clause-sieve g c = c.args.ahead.now.sieved c.loop-sieve.sieve-index c.sieve-item.result (slice_get_read c.args.ahead.now.sieves.now (length c.args.ahead.now.sieves.now) c.loop-sieve.sieve-index c.sieve-item.result refl c.loop-sieve-test.true c.sieve-item.is)
 
 pub returns-then-are_same : goal.returns-then-are_same
 returns-then-are_same g c =

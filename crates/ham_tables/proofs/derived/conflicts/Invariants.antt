@@ -3,4 +3,4 @@ use Rattle.ham_tables.proofs.Filling.{AreFilled}
 use Rattle.ham_tables.proofs.derived.conflicts.Given as goal
 
 abbrev pub invariant-loop-m : goal.invariant-loop-m
-invariant-loop-m l = AreFilled (conflict_of l.object) l.methods l.m l.grid.at
+invariant-loop-m l = AreFilled (conflict_of l.deriver.object.now) l.deriver.methods l.m l.grid.at

@@ -4,4 +4,4 @@ use Rattle.ham_tables.proofs.Written.{written-more}
 use Rattle.ham_tables.proofs.tables.push_dependencies.Goals as goal
 
 pub loop-m-preserved : goal.loop-m-preserved
-loop-m-preserved c = written-more line_text (depend_row c.args.object.now c.args.plan.now) c.loop-m.m c.args.text.now c.loop-m.text _ c.loop-m.invariant c.in_ok-push_depends_of.ensures
+loop-m-preserved c = written-more line_text (depend_row c.args.named.now.object.now c.args.named.now.plan.now) c.loop-m.m c.args.text.now c.loop-m.text _ c.loop-m.invariant c.in_ok-push_depends_of.ensures

@@ -4,4 +4,4 @@ use Rattle.ham_tables.proofs.Written.{IsWritten}
 use Rattle.ham_tables.proofs.tables.push_dependencies.Given as goal
 
 abbrev pub invariant-loop-m : goal.invariant-loop-m
-invariant-loop-m l = IsWritten line_text (depend_row l.object l.plan) l.m l.initial.text l.text
+invariant-loop-m l = IsWritten line_text (depend_row l.named.object.now l.named.plan.now) l.m l.initial.text l.text

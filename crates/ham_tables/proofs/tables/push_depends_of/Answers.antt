@@ -4,4 +4,4 @@ use Rattle.ham_tables.proofs.Written.{written-more}
 use Rattle.ham_tables.proofs.tables.push_depends_of.Goals as goal
 
 pub loop-n-preserved : goal.loop-n-preserved
-loop-n-preserved c = written-more line_text (depend_pair c.args.object.now c.args.plan.now c.args.m) c.loop-n.n c.args.text.now c.loop-n.text _ c.loop-n.invariant c.in_ok-push_depend.ensures
+loop-n-preserved c = written-more line_text (depend_pair c.args.named.now.object.now c.args.named.now.plan.now c.args.m) c.loop-n.n c.args.text.now c.loop-n.text _ c.loop-n.invariant c.in_ok-push_depend.ensures

@@ -4,4 +4,4 @@ use Rattle.ham_tables.proofs.Written.{IsWritten}
 use Rattle.ham_tables.proofs.tables.push_depends_of.Given as goal
 
 abbrev pub invariant-loop-n : goal.invariant-loop-n
-invariant-loop-n l = IsWritten line_text (depend_pair l.object l.plan l.m) l.n l.initial.text l.text
+invariant-loop-n l = IsWritten line_text (depend_pair l.named.object.now l.named.plan.now l.m) l.n l.initial.text l.text

@@ -16,14 +16,18 @@ returns c =
     let seen : c.args.invariant < length (map (λ (v : Watch). v.invariant) c.self.inside.watches.items) = subst (λ (v : Store). c.args.invariant < length v.invariants) (sym c.self.view_is) c.requires.exists in
     let within : c.args.invariant < length c.self.inside.watches.items = omega (arith, length-map c.self.inside.watches.items (λ (v : Watch). v.invariant)) in
     let found : slice_get c.self.inside.watches.items c.args.invariant ≡ Some c.index-watch.result.now = slice_get_read c.self.inside.watches.items (length c.self.inside.watches.items) c.args.invariant c.index-watch.result.now refl within c.index-watch.ensures in
-    subst (λ (v : Store). c.looks_sound.result ≡ true ↔ HoldsBy (after_steps c.args.steps.now v.content) (slice_get v.invariants c.args.invariant)) c.self.view_is
-    (holds_found c.self.inside.facts c.self.inside.amounts c.args.steps.now c.self.inside.watches.items c.args.invariant c.index-watch.result.now c.looks_sound.result c.self.invariant.watched found c.looks_sound.ensures)
+    subst (λ (v : Store). c.is_sound.result ≡ true ↔ HoldsBy (after_steps c.args.steps.now v.content) (slice_get v.invariants c.args.invariant)) c.self.view_is
+    (holds_found c.self.inside.facts c.self.inside.amounts c.args.steps.now c.self.inside.watches.items c.args.invariant c.index-watch.result.now c.is_sound.result c.self.invariant.watched found c.is_sound.ensures)
 
-pub looks_sound-requires-clause-watched : goal.looks_sound-requires-clause-watched
-looks_sound-requires-clause-watched c =
+pub invariant_of-ahead : goal.invariant_of-ahead
+invariant_of-ahead c = record {
+  sieved = subst (AreSieves (content c.self.inside.facts c.self.inside.amounts)) (sym c.deref.ensures.value) c.self.invariant.sieved;
+  few = c.requires.few;
+  small = c.requires.small;
+}
+
+pub invariant_of-is_sound : goal.invariant_of-is_sound
+invariant_of-is_sound c =
     let seen : c.args.invariant < length (map (λ (v : Watch). v.invariant) c.self.inside.watches.items) = subst (λ (v : Store). c.args.invariant < length v.invariants) (sym c.self.view_is) c.requires.exists in
     let within : c.args.invariant < length c.self.inside.watches.items = omega (arith, length-map c.self.inside.watches.items (λ (v : Watch). v.invariant)) in
-    c.self.invariant.watched c.args.invariant c.index-watch.result.now (slice_get_read c.self.inside.watches.items (length c.self.inside.watches.items) c.args.invariant c.index-watch.result.now refl within c.index-watch.ensures)
-
-pub looks_sound-requires-clause-sieves : goal.looks_sound-requires-clause-sieves
-looks_sound-requires-clause-sieves c = subst (AreSieves (content c.self.inside.facts c.self.inside.amounts)) (sym c.deref.ensures.value) c.self.invariant.sieved
+    record { watched = c.self.invariant.watched c.args.invariant c.index-watch.result.now (slice_get_read c.self.inside.watches.items (length c.self.inside.watches.items) c.args.invariant c.index-watch.result.now refl within c.index-watch.ensures) }

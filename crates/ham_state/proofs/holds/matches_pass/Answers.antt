@@ -1,8 +1,0 @@
-use Rattle.std.proofs.Common.{◌∙◌}
-use Rattle.ham_content.specs.Kept.{content}
-use Rattle.ham_state.specs.Ahead.{is_sound_after}
-use Rattle.ham_state.proofs.Looking.{one_match}
-use Rattle.ham_state.proofs.holds.matches_pass.Goals as goal
-
-pub returns-in-Some : goal.returns-in-Some
-returns-in-Some c = c.row_passes.ensures ∙ one_match (is_sound_after (content c.args.ahead.now.facts.now c.args.ahead.now.amounts.now) c.args.watch.now.invariant c.args.ahead.now.steps.now) c.args.relation c.in-Some.row c.args.pattern.now c.args.ahead.now.facts.now.keys c.in-Some.ensures.1
