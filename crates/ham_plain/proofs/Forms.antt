@@ -2,7 +2,6 @@
 use Rattle.std.proofs.Common.{◌≡◌, ℕ, ◌+◌, true, false, List, [], ◌∷◌, ◌++◌, map, Option, Some, None, Result, Ok, Err, refl, sym, ap, ◌∙◌, subst, append_assoc, append-nil}
 use Rattle.std.specs.Prelude.{option_and_then, option_map}
 use Rattle.std.specs.List.{AllByRecursion, flat_map}
-use Rattle.std.specs.declared.alloc.Global.{Global}
 use Rattle.std.proofs.lemmas.List.{map-append, append_cancel_right}
 use Rattle.std.proofs.lemmas.Option.{same_Some}
 use Rattle.ham_text.specs.Cuts.{pieces_of}
@@ -162,21 +161,6 @@ object_found r bytes t raw e d =
 pub bad_line : (r : PlainReader) (bytes : List ℕ) (n : ℕ) → read_from (plain_of r) (at r Nothing) 1 (pieces_of bytes) ≡ Err n → IsPlainReading bytes (Err (BadLine n))
 bad_line r bytes n e =
     same_bad_line (MayBegin (plain_of r)) (IsText (plain_of r)) BeginsObject IsObject (begins_object r) (may_begin r) (is_text r) bytes n (first_bad (plain_of r) bytes n e)
-
--- ---- bytes are always read
-
-whole_of : (d : Draft) → is_end d ≡ true → (raw : Raw) × (d ≡ Whole raw)
-whole_of Nothing h = absurd cc
-whole_of (Head f) h = absurd cc
-whole_of (Body raw m) h = absurd cc
-whole_of (Whole raw) h = (raw, refl)
-
-read_by : (r : PlainReader) (bytes : List ℕ) (found : Result PlainReader ℕ) → read_from (plain_of r) (at r Nothing) 1 (pieces_of bytes) ≡ found → (s : Result Raw FileFault) × IsPlainReading bytes s
-read_by r bytes (Ok t) e = (let w = whole_of t.draft (ended r bytes t e) in (Ok w.0, object_found r bytes t w.0 e w.1))
-read_by r bytes (Err n) e = (Err (BadLine n), bad_line r bytes n e)
-
-pub some_reading : (alloc : Global) (bytes : List ℕ) → (s : Result Raw FileFault) × IsPlainReading bytes s
-some_reading alloc bytes = (let r : PlainReader = record { alloc = alloc; draft = Nothing } in read_by r bytes (read_from (plain_of r) (at r Nothing) 1 (pieces_of bytes)) refl)
 
 -- ---- bytes are read once
 
