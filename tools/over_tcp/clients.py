@@ -122,6 +122,44 @@ def lines_in_pieces(program, _place):
     is_so("the entries", node.stop(), 500 + 1 + 1 + 1 + 1 + 1 + 1 + 1 + 1)
 
 
+def lines_in_rounds(program, _place):
+    """Many lines in one write, among them some that enter nothing, lists, a quit and a stop: each is answered in its turn."""
+    node = Node(program, 1, free_bases(1), BANK)
+    client, lines, replies = node.client(), [], []
+    for k in range(1, 301):
+        lines += ["issue deposit 1", "bogus", "show balance", *(["counts"] if k % 7 == 0 else []), *(["issue withdraw 1000"] if k % 50 == 0 else [])]
+        replies += [f"applied +1:{k}", "refused: not a line", f"value {k}", *([f"counts 0 {k}"] if k % 7 == 0 else []), *(["impermissible invariant 0"] if k % 50 == 0 else [])]
+    is_so("many lines", client.all(lines), replies)
+    client.send("issue deposit 1\n" * 70 + "quit\n" + "issue deposit 1\n" * 70)
+    is_so("nothing after a quit", client.rest(), b"".join(b"applied +1:%d\n" % k for k in range(301, 371)) + b"bye\n")
+    client, entries = node.client(2), 300 + 300 + 300 // 7 + 6 + 70
+    client.send("show balance\n" * 70 + "issue deposit 1\n" + "stop\n" + "issue deposit 1\n" * 70)
+    is_so("nothing after a stop", client.rest(), b"value 370\n" * 70 + b"applied +1:371\nstopping\n")
+    is_so("the entries", node.stopped(), entries + 70 + 1 + 1)
+
+
+def links_that_are_reset(program, _place):
+    """A client that goes away after so many replies: what it sent is entered in its order, as far as it came, and nothing else."""
+    node = Node(program, 1, free_bases(1), BANK)
+    sent = 0
+    for taken in (0, 1, 2, 3, 63, 64, 65, 100):
+        client = node.client()
+        client.send("issue deposit 1\n" * 100 + "show balance\n")
+        first = [client.line() for _ in range(taken)]
+        client.reset()
+        other = node.client(2)
+        value = int(other.ask("show balance").split()[1])
+        is_so("at least what was answered", sent + taken <= value <= sent + 100, True)
+        until("all that came", lambda: len(other.ask("log").split()) - 1 >= value, True)
+        is_so("in their order", first, [f"applied +1:{sent + k}" for k in range(1, taken + 1)])
+        other.close()
+        again = node.client(1)
+        sent = int(again.ask("show balance").split()[1])
+        is_so("one call for each", len(again.ask("log").split()) - 1, sent)
+        again.close()
+    node.stop()
+
+
 def deaf_client(port):
     """A link with little room, some eighty thousand bytes, for replies that nobody takes."""
     link = socket.socket()
