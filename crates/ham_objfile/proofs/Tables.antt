@@ -128,7 +128,7 @@ counter_back c h = rw (name_back c.name h) refl
 
 invariant_back : (i : RawInvariant) → IsProperInvariant i → invariant_in (invariant_table i) ≡ Ok i
 unfolding invariant_in reference_in unique_in low_in high_in invariant_kind_of
-invariant_back (Reference from columns to) h = rw (name_back from h.0, naturals_back columns, name_back to h.1.0) refl
+invariant_back (Reference from columns to) h = rw (name_back from h.0, naturals_back columns, name_back to h.1) refl
 invariant_back (Unique r columns) h = rw (name_back r h.0, naturals_back columns) refl
 invariant_back (Low c limit) h = rw (name_back c h.0) refl
 invariant_back (High c limit) h = rw (name_back c h.0) refl

@@ -6,3 +6,4 @@ pub mod Adds
 pub mod Runs
 pub mod Forms
 pub mod Printed
+pub mod Always
