@@ -25,10 +25,10 @@ use Rattle.ham_node_cli.specs.declared.node.NodeEnd.TheVariants as ends
 use Rattle.ham_node_cli.specs.NodeWords.{AskedNode}
 
 -- the status of the process
-abbrev pub number_of : NodeEnd → ℕ
-number_of ends.Stopped = 0
-number_of ends.BoardFault = 9
-number_of (ends.Ended exit) = of_exits.number_of exit
+abbrev pub status_of : NodeEnd → ℕ
+status_of ends.Stopped = 0
+status_of ends.BoardFault = 9
+status_of (ends.Ended exit) = of_exits.status_of exit
 
 abbrev pub end_by : ReplicaEnd → NodeEnd
 end_by replica_ends.Stopped = ends.Stopped

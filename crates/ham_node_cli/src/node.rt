@@ -33,7 +33,7 @@ pub enum NodeEnd {
 impl NodeEnd {
     /// The status that the process ends with.
     pub fn number(self) -> u8
-        ensures { result ≡ ends.number_of self }
+        ensures { result ≡ ends.status_of self }
     {
         match self {
             NodeEnd::Stopped => 0,
